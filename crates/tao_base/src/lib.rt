@@ -1,0 +1,26 @@
+//! What all crates of the store speak of: parameters, tree paths, plain types, and the traits of the outside.
+#![tactic(auto)]
+
+mod calls;
+mod failures;
+mod links;
+mod lists;
+mod parameters;
+mod paths;
+mod session;
+mod sinks;
+mod sources;
+mod storage;
+#[cfg(test)]
+mod tests;
+
+pub use calls::{Op, Reply};
+pub use failures::{Failed, NoMemory};
+pub use links::{Asked, Link};
+pub use lists::{Block, Blocks, Buckets, Image, Items, Numbers, Ops};
+pub use parameters::{Form, ParamFault, Params};
+pub use paths::{on_path, path_node};
+pub use session::{Cause, Event};
+pub use sinks::{ByteSink, Sink};
+pub use sources::{ByteSource, Source};
+pub use storage::{Bucket, BucketFault, Entries, Entry, Order};
