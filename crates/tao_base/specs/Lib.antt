@@ -2,6 +2,7 @@ pub mod Array
 pub mod Causes
 pub mod Items
 pub mod Limits
+pub mod Lines
 pub mod Links
 pub mod Memory
 pub mod Session

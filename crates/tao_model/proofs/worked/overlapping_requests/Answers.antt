@@ -1,0 +1,8 @@
+use Rattle.std.proofs.Common.{refl}
+use Rattle.std.specs.Fmt.{digits}
+use Rattle.hex.specs.Hex.{encode_with}
+use Rattle.tao_model.proofs.worked.overlapping_requests.Goals as goal
+
+pub returns : goal.returns
+unfolding digits encode_with
+returns c = record { whole = record { text = refl; fetched = refl; held = refl }; part = refl }

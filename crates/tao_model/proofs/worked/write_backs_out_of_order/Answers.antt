@@ -1,0 +1,8 @@
+use Rattle.std.proofs.Common.{refl}
+use Rattle.std.specs.Fmt.{digits}
+use Rattle.hex.specs.Hex.{encode_with}
+use Rattle.tao_model.proofs.worked.write_backs_out_of_order.Goals as goal
+
+pub returns : goal.returns
+unfolding digits encode_with
+returns c = record { text = refl; fetched = refl; held = refl }

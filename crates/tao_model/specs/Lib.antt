@@ -1,0 +1,9 @@
+pub mod Events
+pub mod Lawful
+pub mod Placement
+pub mod Replies
+pub mod Requests
+pub mod Residence
+pub mod Trace
+pub mod Transcript
+pub mod Worked

@@ -1,0 +1,130 @@
+-- The transcript: the text that tells a whole session, line by line.
+use Rattle.std.specs.Prelude.{ℕ, ◌+◌, ◌-◌, ◌==◌, nat_le, Bool, true, false, not, ◌&&◌, if◌then◌else◌, List, [], ◌∷◌, ◌++◌, length, Option, Some, None, codes}
+use Rattle.std.specs.List.{flat_map, range_with_len, list_all}
+use Rattle.tao_base.specs.declared.calls.Op.{Op}
+use Rattle.tao_base.specs.declared.calls.Op.TheVariants.{Read, Write, Pad}
+use Rattle.tao_base.specs.declared.parameters.Form.{Form}
+use Rattle.tao_base.specs.declared.parameters.Form.TheVariants.{One, Two, Turn}
+use Rattle.tao_base.specs.declared.session.Cause.{Cause}
+use Rattle.tao_base.specs.declared.session.Cause.TheVariants.{Damaged, Stale, Link}
+use Rattle.tao_base.specs.declared.session.Event.{Event}
+use Rattle.tao_base.specs.declared.session.Event.TheVariants.{Arrive, Done, Issue, Acked, Fault}
+use Rattle.tao_base.specs.declared.storage.BucketFault.{BucketFault}
+use Rattle.tao_base.specs.declared.storage.BucketFault.TheVariants as bucket_faults
+use Rattle.tao_base.specs.Limits.{Shape}
+use Rattle.tao_base.specs.Lines.{spaced, spaced_hex, ended, words_line, hex_line}
+use Rattle.tao_base.specs.Session.{Opening, History}
+use Rattle.tao_base.specs.Tree.{node_count}
+use Rattle.tao_base.specs.Array.{block_at}
+use Rattle.tao_model.specs.Events.{arrived, acks, client_of, is_pad}
+use Rattle.tao_model.specs.Requests.{fetched_leaf}
+use Rattle.tao_model.specs.Replies.{plain_reply, released}
+use Rattle.tao_model.specs.Trace.{nodes_in}
+
+-- ---- the opening
+
+abbrev pub form_line : Form → List ℕ
+form_line One = []
+form_line Two = codes "form 2\n"
+form_line Turn = codes "form turn\n"
+
+abbrev pub is_zero : List ℕ → Bool
+is_zero bytes = list_all (λ byte. byte == 0) bytes
+
+-- a block whose first value isn't all zero
+abbrev pub first_line : List (List ℕ) → ℕ → List ℕ
+first_line blocks id = if is_zero (block_at blocks id) then [] else hex_line (codes "first") (id ∷ []) (block_at blocks id)
+
+abbrev pub tree_line : Shape → List ℕ
+tree_line s = words_line (codes "tree") (s.l ∷ s.z ∷ s.b ∷ s.n ∷ s.k ∷ [])
+
+abbrev pub opening_lines : Opening → List ℕ
+opening_lines o = ((tree_line o.shape ++ form_line o.shape.form) ++ flat_map (first_line o.first) (range_with_len 0 (length o.first)))
+    ++ words_line (codes "load") (node_count o.shape.l ∷ [])
+
+-- ---- events; those before are newest first
+
+abbrev pub op_words : Op → List ℕ
+op_words (Read id) = codes " read" ++ spaced id
+op_words (Write id value) = (codes " write" ++ spaced id) ++ spaced_hex value
+op_words Pad = codes " pad"
+
+abbrev pub arrive_line : ℕ → ℕ → Op → List ℕ
+arrive_line i client op = ended (((codes "arrive" ++ spaced i) ++ spaced client) ++ op_words op)
+
+-- the reply of an arrival that isn't a pad
+abbrev pub reply_line : Opening → List Event → ℕ → List ℕ
+reply_line o es i = if is_pad es i then [] else hex_line (codes "reply") (i ∷ client_of es i ∷ []) (plain_reply o es i)
+
+-- the replies of the arrivals that are released since `from`
+abbrev pub reply_lines : Opening → List Event → ℕ → List ℕ
+reply_lines o es from = flat_map (reply_line o es) (range_with_len from (released es - from))
+
+abbrev pub fault_name : BucketFault → List ℕ
+fault_name bucket_faults.Length = codes "Length"
+fault_name bucket_faults.Format = codes "Format"
+fault_name bucket_faults.Padding = codes "Padding"
+fault_name bucket_faults.Node = codes "Node"
+fault_name bucket_faults.Id = codes "Id"
+fault_name bucket_faults.Order = codes "Order"
+fault_name bucket_faults.Dummy = codes "Dummy"
+fault_name bucket_faults.Tag = codes "Tag"
+
+abbrev pub cause_line : Cause → List ℕ
+cause_line (Damaged fetch node fault) = ended (((codes "refused" ++ spaced fetch) ++ spaced node) ++ (codes " damaged " ++ fault_name fault))
+cause_line (Stale fetch node wanted found) = ended ((((codes "refused" ++ spaced fetch) ++ spaced node) ++ codes " stale") ++ (spaced wanted ++ spaced found))
+cause_line (Link link) = []
+
+-- the lines of an event, behind those before it
+abbrev pub event_lines : Opening → List Event → Event → List ℕ
+event_lines o es (Arrive client op word) = arrive_line (arrived es) client op
+    ++ words_line (codes "fetch") (arrived es ∷ fetched_leaf o (Arrive client op word ∷ es) (arrived es) ∷ [])
+event_lines o es (Done arrival taken) = words_line (codes "done") (arrival ∷ []) ++ reply_lines o (Done arrival taken ∷ es) (released es)
+event_lines o es (Issue version nonce buckets) = words_line (codes "store") (version ∷ nonce ∷ nodes_in buckets)
+event_lines o es (Acked version) = words_line (codes "ack") (version ∷ [])
+event_lines o es (Fault cause) = cause_line cause
+
+-- the line of a version's store that is sent again
+abbrev pub again_line : List Event → ℕ → List ℕ
+again_line [] v = []
+again_line (Arrive client op word ∷ es) v = again_line es v
+again_line (Done arrival taken ∷ es) v = again_line es v
+again_line (Issue version nonce buckets ∷ es) v = if version == v then words_line (codes "again") (version ∷ nonce ∷ nodes_in buckets) else again_line es v
+again_line (Acked version ∷ es) v = again_line es v
+again_line (Fault cause ∷ es) v = again_line es v
+
+-- an acknowledgement that comes when all but so many have come is that of a store that was sent again
+abbrev pub again_before : ℕ → List Event → Event → List ℕ
+again_before once es (Arrive client op word) = []
+again_before once es (Done arrival taken) = []
+again_before once es (Issue version nonce buckets) = []
+again_before once es (Acked version) = if nat_le once (acks es) then again_line es version else []
+again_before once es (Fault cause) = []
+
+-- the lines of the rest of a record, behind those before it
+abbrev pub lines_from : Opening → ℕ → List Event → List Event → List ℕ
+lines_from o once es [] = []
+lines_from o once es (e ∷ rest) = (again_before once es e ++ event_lines o es e) ++ lines_from o once (e ∷ es) rest
+
+-- how many acknowledgements a record has
+abbrev pub acks_in : List Event → ℕ
+acks_in [] = 0
+acks_in (Arrive client op word ∷ rest) = acks_in rest
+acks_in (Done arrival taken ∷ rest) = acks_in rest
+acks_in (Issue version nonce buckets ∷ rest) = acks_in rest
+acks_in (Acked version ∷ rest) = acks_in rest + 1
+acks_in (Fault cause ∷ rest) = acks_in rest
+
+-- ---- the close
+
+abbrev pub block_line : List (List ℕ) → ℕ → List ℕ
+block_line blocks id = hex_line (codes "block") (id ∷ []) (block_at blocks id)
+
+-- the final array, where the whole tree was read at the close
+abbrev pub closing_lines : Option (List (List ℕ)) → List ℕ
+closing_lines None = []
+closing_lines (Some blocks) = codes "scan\n" ++ flat_map (block_line blocks) (range_with_len 0 (length blocks))
+
+-- the whole text of a record: of its last acknowledgements so many are of stores that were sent again
+abbrev pub transcript : History → ℕ → Option (List (List ℕ)) → List ℕ → List ℕ
+transcript h again final end = ((opening_lines h.opening ++ lines_from h.opening (acks_in h.events - again) [] h.events) ++ closing_lines final) ++ end
