@@ -1,9 +1,11 @@
 pub mod Events
 pub mod Lawful
+pub mod OneMore
 pub mod Placement
 pub mod Replies
 pub mod Requests
 pub mod Residence
+pub mod Stays
 pub mod Trace
 pub mod Transcript
 pub mod Worked

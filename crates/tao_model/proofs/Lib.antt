@@ -1,0 +1,4 @@
+pub mod Growth
+pub mod OneMoreEvent
+pub mod Places
+pub mod Stays

@@ -1,0 +1,110 @@
+-- One more event of a record, over the events newest first.
+use Rattle.std.proofs.Common.{◌≡◌, ℕ, zero, suc, ◌+◌, ◌-◌, ◌<◌, ◌≤◌, Bool, true, false, ◌&&◌, ◌||◌, cond, List, [], ◌∷◌, ◌++◌, reverse, refl, sym, ap, ◌∙◌, subst, arith, add-one}
+use Rattle.std.proofs.lemmas.Bool.{ne_eqb, eq-eqb, le-ltb, eqb-true, cases_lt, cases_eq, true≢false}
+use Rattle.tao_base.specs.declared.calls.Op.{Op}
+use Rattle.tao_base.specs.declared.calls.Op.TheVariants.{Read, Write, Pad}
+use Rattle.tao_base.specs.declared.session.Event.{Event}
+use Rattle.tao_base.specs.declared.session.Event.TheVariants.{Arrive, Done, Issue, Acked, Fault}
+use Rattle.tao_base.specs.Session.{Opening}
+use Rattle.tao_base.specs.Tree.{leaf_of}
+use Rattle.tao_model.specs.Events.{arrived, is_done, is_on, names, word_of, word_at}
+use Rattle.tao_model.specs.Requests.{is_real, real_now, next_word, word_for, word_used, leaf_at, fetched_leaf, position_word}
+use Rattle.tao_model.specs.Replies.{leading, released}
+use Rattle.tao_model.specs.Lawful.{FollowsLawfully, IsInRange}
+use Rattle.tao_model.specs.OneMore.{OneMoreArrive, OneMoreDone, OneMoreIssue, OneMoreAcked, OneMoreFault, PadsAreFake, SamePositions}
+use Rattle.tao_model.proofs.Stays.{newest_first, place_stays}
+use Rattle.tao_model.proofs.Places.{next_below, position_below, done_arrived}
+use Rattle.tao_model.proofs.Growth.{released_grows_later}
+
+-- the newest arrival's own word
+own_word : (o : Opening) (es : List Event) (client : ℕ) (op : Op) (word : ℕ) → word_at o (Arrive client op word ∷ es) (o.shape.n + arrived es) ≡ word
+own_word o es client op word = rw (le-ltb (o.shape.n + arrived es) o.shape.n (omega arith), eq-eqb (o.shape.n + arrived es - o.shape.n) (arrived es) (omega arith)) refl
+
+used_newest : (o : Opening) (es : List Event) (client : ℕ) (op : Op) (word : ℕ)
+    → word_used o (Arrive client op word ∷ es) (arrived es) ≡ word_for (next_word o es) (o.shape.n + arrived es) (real_now es op) op
+used_newest o es client op word = rw (eq-eqb (arrived es) (arrived es) refl) refl
+
+word_for_fake : (next : ℕ → ℕ) (new : ℕ) (op : Op) → word_for next new false op ≡ new
+word_for_fake next new (Read id) = refl
+word_for_fake next new (Write id value) = refl
+word_for_fake next new Pad = refl
+
+word_for_block : (next : ℕ → ℕ) (new block : ℕ) (op : Op) → names block op ≡ true → word_for next new true op ≡ next block
+word_for_block next new block (Read id) h = ap next (eqb-true id block h)
+word_for_block next new block (Write id value) h = ap next (eqb-true id block h)
+word_for_block next new block Pad h = absurd (true≢false (sym h))
+
+names_below : (o : Opening) (block : ℕ) (op : Op) → names block op ≡ true → IsInRange o.shape op → block < o.shape.n
+names_below o block (Read id) h r = let same : id ≡ block = eqb-true id block h in omega arith
+names_below o block (Write id value) h r = let same : id ≡ block = eqb-true id block h in let low : id < o.shape.n = r.0 in omega arith
+names_below o block Pad h r = absurd (true≢false (sym h))
+
+leading_more : (passes : ℕ → Bool) (n : ℕ) → passes n ≡ false → leading passes (n + 1) ≡ leading passes n
+leading_more passes n h = rw (add-one n, h) refl
+
+same_positions : (o : Opening) (es : List Event) (e : Event) → FollowsLawfully o es → ((block : ℕ) → position_word o (e ∷ es) block ≡ position_word o es block)
+    → SamePositions o es (e ∷ es)
+same_positions o es e f same block h = ap (leaf_at o (e ∷ es)) (same block) ∙ ap (leaf_of o.shape.l) (place_stays o es e (position_word o es block) (position_below o es block f h))
+
+pub one_more_arrive : OneMoreArrive
+one_more_arrive o events client op word = rw (newest_first events (Arrive client op word)) (λ f. record {
+  real = rw (eq-eqb (arrived (reverse events)) (arrived (reverse events)) refl) refl;
+  used = used_newest o (reverse events) client op word;
+  leaf_of_block = λ block named real.
+      ap (leaf_at o (Arrive client op word ∷ reverse events))
+          (used_newest o (reverse events) client op word ∙ ap (λ b. word_for (next_word o (reverse events)) (o.shape.n + arrived (reverse events)) b op) real
+          ∙ word_for_block (next_word o (reverse events)) (o.shape.n + arrived (reverse events)) block op named)
+      ∙ ap (leaf_of o.shape.l) (place_stays o (reverse events) (Arrive client op word) (next_word o (reverse events) block)
+          (next_below o (reverse events) block (names_below o block op named f.2.3)));
+  leaf_of_word = λ fake.
+      ap (leaf_at o (Arrive client op word ∷ reverse events))
+          (used_newest o (reverse events) client op word ∙ ap (λ b. word_for (next_word o (reverse events)) (o.shape.n + arrived (reverse events)) b op) fake
+          ∙ word_for_fake (next_word o (reverse events)) (o.shape.n + arrived (reverse events)) op)
+      ∙ ap (leaf_of o.shape.l) (own_word o (reverse events) client op word);
+  reply = rw (eq-eqb (arrived (reverse events)) (arrived (reverse events)) refl) refl;
+  array = refl;
+  released = leading_more (is_done (reverse events)) (arrived (reverse events)) (done_arrived o (reverse events) (arrived (reverse events)) f.0 (omega arith));
+  nodes = record { touch = λ node. refl; resident = λ node. refl; written = λ node. refl };
+  positions = same_positions o (reverse events) (Arrive client op word) f.0 (λ block. refl);
+})
+
+done_word : (o : Opening) (es : List Event) (arrival : ℕ) → word_at o es (o.shape.n + arrival) ≡ word_of es arrival
+done_word o es arrival = rw (le-ltb (o.shape.n + arrival) o.shape.n (omega arith)) (ap (word_of es) (omega arith))
+
+pub one_more_done : OneMoreDone
+one_more_done o events arrival taken = rw (newest_first events (Done arrival taken)) (λ f. record {
+  touch = λ node. refl;
+  resident = λ node. refl;
+  written = λ node. refl;
+  moved = λ block real on. ap (leaf_of o.shape.l) (rw (real, on) (done_word o (reverse events) arrival));
+  kept = λ block small other. rw other (ap (leaf_of o.shape.l) (place_stays o (reverse events) (Done arrival taken) (position_word o (reverse events) block) (position_below o (reverse events) block f.0 small)));
+  released = released_grows_later (Done arrival taken ∷ []) (reverse events);
+})
+
+pub one_more_issue : OneMoreIssue
+one_more_issue o events version nonce buckets = rw (newest_first events (Issue version nonce buckets)) (λ f. record {
+  touch = λ node. refl;
+  resident = λ node. refl;
+  written = λ node. refl;
+  positions = same_positions o (reverse events) (Issue version nonce buckets) f.0 (λ block. refl);
+  released = refl;
+})
+
+pub one_more_acked : OneMoreAcked
+one_more_acked o events version = rw (newest_first events (Acked version)) (λ f. record {
+  touch = λ node. refl;
+  resident = λ node. refl;
+  written = λ node. refl;
+  positions = same_positions o (reverse events) (Acked version) f.0 (λ block. refl);
+  released = refl;
+})
+
+pub one_more_fault : OneMoreFault
+one_more_fault o events cause = rw (newest_first events (Fault cause)) (λ f. record {
+  nodes = record { touch = λ node. refl; resident = λ node. refl; written = λ node. refl };
+  positions = same_positions o (reverse events) (Fault cause) f.0 (λ block. refl);
+  released = refl;
+})
+
+pub pads_are_fake : PadsAreFake
+pads_are_fake events client word = rw (newest_first events (Arrive client Pad word), eq-eqb (arrived (reverse events)) (arrived (reverse events)) refl) refl
