@@ -1,7 +1,9 @@
 pub mod Events
 pub mod Lawful
 pub mod OneMore
+pub mod Passes
 pub mod Placement
+pub mod PlacementLaws
 pub mod Replies
 pub mod Requests
 pub mod Residence
