@@ -4,12 +4,10 @@ use Rattle.std.proofs.lemmas.Bool.{ne_eqb, eq-eqb, cases_lt, cases_eq, true≢fa
 use Rattle.std.proofs.lemmas.List.{reverse-append}
 use Rattle.tao_base.specs.declared.session.Event.{Event}
 use Rattle.tao_base.specs.declared.session.Event.TheVariants.{Arrive, Done, Issue, Acked, Fault}
-use Rattle.tao_base.specs.Session.{Opening}
 use Rattle.tao_model.specs.Events.{arrived, client_of, is_done}
-use Rattle.tao_model.specs.Requests.{is_real, settler, word_used, fetched_leaf}
+use Rattle.tao_model.specs.Requests.{is_real, settler, word_used}
 use Rattle.tao_model.specs.Replies.{leading, released, plain_reply}
-
-use Rattle.tao_model.specs.Stays.{IsAsBefore, ArrivalsStay, ReleasedGrows}
+use Rattle.tao_model.specs.Stays.{ArrivalsStay, ReleasedGrows}
 use Rattle.tao_model.proofs.Stays.{client_stays, real_stays, used_stays, reply_stays, settler_stays}
 use Rattle.tao_model.proofs.Places.{stays_later, leaf_stays_later, arrived_grows}
 
@@ -26,26 +24,26 @@ leading_step passes n r false is l = record {
   next = λ h. stop (cases_lt r n);
 }
   where
-  stop : (r < n) ⊎ (n ≤ r) → passes r ≡ false
-  stop (inl k) = l.next k
-  stop (inr k) = let w = l.within in let same : r ≡ n = omega arith in ap passes same ∙ is
+    stop : (r < n) ⊎ (n ≤ r) → passes r ≡ false
+    stop (inl k) = l.next k
+    stop (inr k) = let w = l.within in let same : r ≡ n = omega arith in ap passes same ∙ is
 leading_step passes n r true is l = either (cases_eq r n)
   where
-  either : (r ≡ n) ⊎ (r ≡ n → ⊥) → IsLeading passes (n + 1) (cond (nat_eq r n) (n + 1) r)
-  either (inl same) = rw (eq-eqb r n same) (record {
-    within = omega arith;
-    below = λ i h. pass i (cases_lt i n) h;
-    next = λ h. absurd (omega arith);
-  })
-    where
-    pass : (i : ℕ) → (i < n) ⊎ (n ≤ i) → i < n + 1 → passes i ≡ true
-    pass i (inl k) h = l.below i (omega arith)
-    pass i (inr k) h = let at : i ≡ n = omega arith in ap passes at ∙ is
-  either (inr other) = rw (ne_eqb r n other) (record {
-    within = let w = l.within in omega arith;
-    below = l.below;
-    next = λ h. let w = l.within in l.next (omega (arith, other));
-  })
+    either : (r ≡ n) ⊎ (r ≡ n → ⊥) → IsLeading passes (n + 1) (cond (nat_eq r n) (n + 1) r)
+    either (inl same) = rw (eq-eqb r n same) (record {
+      within = omega arith;
+      below = λ i h. pass i (cases_lt i n) h;
+      next = λ h. absurd (omega arith);
+    })
+      where
+        pass : (i : ℕ) → (i < n) ⊎ (n ≤ i) → i < n + 1 → passes i ≡ true
+        pass i (inl k) h = l.below i (omega arith)
+        pass i (inr k) h = let at : i ≡ n = omega arith in ap passes at ∙ is
+    either (inr other) = rw (ne_eqb r n other) (record {
+      within = let w = l.within in omega arith;
+      below = l.below;
+      next = λ h. let w = l.within in l.next (omega (arith, other));
+    })
 
 pub leading_is : (passes : ℕ → Bool) (n : ℕ) → IsLeading passes n (leading passes n)
 leading_is passes zero = record { within = omega arith; below = λ i h. absurd (omega arith); next = λ h. absurd (omega arith) }
@@ -56,21 +54,21 @@ leading_is passes (suc n) = subst (λ k. IsLeading passes k (leading passes (suc
 pub leading_grows : (f g : ℕ → Bool) (m n r s : ℕ) → IsLeading f m r → IsLeading g n s → m ≤ n → ((i : ℕ) → f i ≡ true → g i ≡ true) → r ≤ s
 leading_grows f g m n r s a b le more = either (cases_lt s r)
   where
-  either : (s < r) ⊎ (r ≤ s) → r ≤ s
-  either (inl less) =
-      let w = a.within in
-      let stops : g s ≡ false = b.next (omega arith) in
-      absurd (true≢false (sym (more s (a.below s less)) ∙ stops))
-  either (inr h) = h
+    either : (s < r) ⊎ (r ≤ s) → r ≤ s
+    either (inl less) =
+        let w = a.within in
+        let stops : g s ≡ false = b.next (omega arith) in
+        absurd (true≢false (sym (more s (a.below s less)) ∙ stops))
+    either (inr h) = h
 
 pub done_stays : (later es : List Event) (i : ℕ) → is_done es i ≡ true → is_done (later ++ es) i ≡ true
 done_stays [] es i h = h
 done_stays (Arrive client op word ∷ later) es i h = done_stays later es i h
 done_stays (Done arrival taken ∷ later) es i h = rw (done_stays later es i h) (or_true (nat_eq arrival i))
   where
-  or_true : (b : Bool) → (b || true) ≡ true
-  or_true true = refl
-  or_true false = refl
+    or_true : (b : Bool) → (b || true) ≡ true
+    or_true true = refl
+    or_true false = refl
 done_stays (Issue version nonce buckets ∷ later) es i h = done_stays later es i h
 done_stays (Acked version ∷ later) es i h = done_stays later es i h
 done_stays (Fault cause ∷ later) es i h = done_stays later es i h

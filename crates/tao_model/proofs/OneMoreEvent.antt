@@ -1,15 +1,15 @@
 -- One more event of a record, over the events newest first.
-use Rattle.std.proofs.Common.{◌≡◌, ℕ, zero, suc, ◌+◌, ◌-◌, ◌<◌, ◌≤◌, Bool, true, false, ◌&&◌, ◌||◌, cond, List, [], ◌∷◌, ◌++◌, reverse, refl, sym, ap, ◌∙◌, subst, arith, add-one}
-use Rattle.std.proofs.lemmas.Bool.{ne_eqb, eq-eqb, le-ltb, eqb-true, cases_lt, cases_eq, true≢false}
+use Rattle.std.proofs.Common.{◌≡◌, ℕ, ◌+◌, ◌-◌, ◌<◌, Bool, true, false, List, [], ◌∷◌, reverse, refl, sym, ap, ◌∙◌, arith, add-one}
+use Rattle.std.proofs.lemmas.Bool.{eq-eqb, le-ltb, eqb-true, true≢false}
 use Rattle.tao_base.specs.declared.calls.Op.{Op}
 use Rattle.tao_base.specs.declared.calls.Op.TheVariants.{Read, Write, Pad}
 use Rattle.tao_base.specs.declared.session.Event.{Event}
 use Rattle.tao_base.specs.declared.session.Event.TheVariants.{Arrive, Done, Issue, Acked, Fault}
 use Rattle.tao_base.specs.Session.{Opening}
 use Rattle.tao_base.specs.Tree.{leaf_of}
-use Rattle.tao_model.specs.Events.{arrived, is_done, is_on, names, word_of, word_at}
-use Rattle.tao_model.specs.Requests.{is_real, real_now, next_word, word_for, word_used, leaf_at, fetched_leaf, position_word}
-use Rattle.tao_model.specs.Replies.{leading, released}
+use Rattle.tao_model.specs.Events.{arrived, is_done, names, word_of, word_at}
+use Rattle.tao_model.specs.Requests.{real_now, next_word, word_for, word_used, leaf_at, position_word}
+use Rattle.tao_model.specs.Replies.{leading}
 use Rattle.tao_model.specs.Lawful.{FollowsLawfully, IsInRange}
 use Rattle.tao_model.specs.OneMore.{OneMoreArrive, OneMoreDone, OneMoreIssue, OneMoreAcked, OneMoreFault, PadsAreFake, SamePositions}
 use Rattle.tao_model.proofs.Stays.{newest_first, place_stays}
@@ -52,14 +52,14 @@ one_more_arrive o events client op word = rw (newest_first events (Arrive client
   used = used_newest o (reverse events) client op word;
   leaf_of_block = λ block named real.
       ap (leaf_at o (Arrive client op word ∷ reverse events))
-          (used_newest o (reverse events) client op word ∙ ap (λ b. word_for (next_word o (reverse events)) (o.shape.n + arrived (reverse events)) b op) real
-          ∙ word_for_block (next_word o (reverse events)) (o.shape.n + arrived (reverse events)) block op named)
+      (used_newest o (reverse events) client op word ∙ ap (λ b. word_for (next_word o (reverse events)) (o.shape.n + arrived (reverse events)) b op) real
+      ∙ word_for_block (next_word o (reverse events)) (o.shape.n + arrived (reverse events)) block op named)
       ∙ ap (leaf_of o.shape.l) (place_stays o (reverse events) (Arrive client op word) (next_word o (reverse events) block)
-          (next_below o (reverse events) block (names_below o block op named f.2.3)));
+      (next_below o (reverse events) block (names_below o block op named f.2.3)));
   leaf_of_word = λ fake.
       ap (leaf_at o (Arrive client op word ∷ reverse events))
-          (used_newest o (reverse events) client op word ∙ ap (λ b. word_for (next_word o (reverse events)) (o.shape.n + arrived (reverse events)) b op) fake
-          ∙ word_for_fake (next_word o (reverse events)) (o.shape.n + arrived (reverse events)) op)
+      (used_newest o (reverse events) client op word ∙ ap (λ b. word_for (next_word o (reverse events)) (o.shape.n + arrived (reverse events)) b op) fake
+      ∙ word_for_fake (next_word o (reverse events)) (o.shape.n + arrived (reverse events)) op)
       ∙ ap (leaf_of o.shape.l) (own_word o (reverse events) client op word);
   reply = rw (eq-eqb (arrived (reverse events)) (arrived (reverse events)) refl) refl;
   array = refl;

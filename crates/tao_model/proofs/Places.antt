@@ -1,6 +1,6 @@
 -- Places of the tape that are there, and the facts of a lawful record that they rest on. The events are newest first.
-use Rattle.std.proofs.Common.{◌≡◌, ℕ, ◌+◌, ◌-◌, ◌<◌, ◌≤◌, Bool, true, false, ◌&&◌, cond, List, [], ◌∷◌, ◌++◌, refl, sym, ap, ◌∙◌, subst, arith, inl, inr, ◌⊎◌, nat_eq}
-use Rattle.std.proofs.lemmas.Bool.{ne_eqb, eq-eqb, cases_lt, cases_eq}
+use Rattle.std.proofs.Common.{◌≡◌, ℕ, ◌+◌, ◌<◌, ◌≤◌, Bool, true, false, ◌&&◌, cond, List, [], ◌∷◌, ◌++◌, refl, ap, ◌∙◌, arith, inl, inr, ◌⊎◌}
+use Rattle.std.proofs.lemmas.Bool.{ne_eqb, eq-eqb, cases_lt}
 use Rattle.tao_base.specs.declared.calls.Op.{Op}
 use Rattle.tao_base.specs.declared.calls.Op.TheVariants.{Read, Write, Pad}
 use Rattle.tao_base.specs.declared.session.Event.{Event}
@@ -8,8 +8,8 @@ use Rattle.tao_base.specs.declared.session.Event.TheVariants.{Arrive, Done, Issu
 use Rattle.tao_base.specs.Session.{Opening}
 use Rattle.tao_base.specs.Tree.{leaf_of}
 use Rattle.tao_model.specs.Events.{arrived, is_done, is_on, names, word_at}
-use Rattle.tao_model.specs.Requests.{is_real, real_now, next_word, word_for, word_used, leaf_at, fetched_leaf, position_word, position}
-use Rattle.tao_model.specs.Lawful.{FollowsLawfully, MayFollow, IsInRange}
+use Rattle.tao_model.specs.Requests.{is_real, real_now, next_word, word_for, word_used, leaf_at, fetched_leaf, position_word}
+use Rattle.tao_model.specs.Lawful.{FollowsLawfully, IsInRange}
 use Rattle.tao_model.proofs.Stays.{used_stays, place_stays}
 
 below_either : (n k p : ℕ) (b : Bool) → p < n + k → cond b (n + k) p < n + (k + 1)
@@ -40,10 +40,10 @@ pub used_below : (o : Opening) (es : List Event) (i : ℕ) → FollowsLawfully o
 used_below o [] i f h = absurd (omega arith)
 used_below o (Arrive client op word ∷ es) i f h = either (cases_lt i (arrived es)) (λ older. used_below o es i f.0 older)
   where
-  either : (i < arrived es) ⊎ (arrived es ≤ i) → (i < arrived es → word_used o es i < o.shape.n + arrived es)
-      → word_used o (Arrive client op word ∷ es) i < o.shape.n + (arrived es + 1)
-  either (inl older) ih = rw (ne_eqb i (arrived es) (λ same. omega arith)) (let below = ih older in omega arith)
-  either (inr newest) ih = rw (eq-eqb i (arrived es) (omega arith)) (word_for_below o es op (real_now es op) f.2.3)
+    either : (i < arrived es) ⊎ (arrived es ≤ i) → (i < arrived es → word_used o es i < o.shape.n + arrived es)
+        → word_used o (Arrive client op word ∷ es) i < o.shape.n + (arrived es + 1)
+    either (inl older) ih = rw (ne_eqb i (arrived es) (λ same. omega arith)) (let below = ih older in omega arith)
+    either (inr newest) ih = rw (eq-eqb i (arrived es) (omega arith)) (word_for_below o es op (real_now es op) f.2.3)
 used_below o (Done arrival taken ∷ es) i f h = used_below o es i f.0 h
 used_below o (Issue version nonce buckets ∷ es) i f h = used_below o es i f.0 h
 used_below o (Acked version ∷ es) i f h = used_below o es i f.0 h
@@ -65,9 +65,9 @@ position_below o [] block f h = omega arith
 position_below o (Arrive client op word ∷ es) block f h = let below = position_below o es block f.0 h in omega arith
 position_below o (Done arrival taken ∷ es) block f h = either (is_real es arrival && is_on es arrival block) (position_below o es block f.0 h)
   where
-  either : (b : Bool) → position_word o es block < o.shape.n + arrived es → cond b (o.shape.n + arrival) (position_word o es block) < o.shape.n + arrived es
-  either true ih = let there = f.2.1.arrived in omega arith
-  either false ih = ih
+    either : (b : Bool) → position_word o es block < o.shape.n + arrived es → cond b (o.shape.n + arrival) (position_word o es block) < o.shape.n + arrived es
+    either true ih = let there = f.2.1.arrived in omega arith
+    either false ih = ih
 position_below o (Issue version nonce buckets ∷ es) block f h = position_below o es block f.0 h
 position_below o (Acked version ∷ es) block f h = position_below o es block f.0 h
 position_below o (Fault cause ∷ es) block f h = position_below o es block f.0 h

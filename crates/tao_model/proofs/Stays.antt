@@ -1,12 +1,11 @@
 -- What later events leave as it was. The events are newest first.
-use Rattle.std.proofs.Common.{◌≡◌, ℕ, ◌+◌, ◌-◌, ◌<◌, ◌≤◌, Bool, true, false, List, [], ◌∷◌, ◌++◌, reverse, refl, sym, ap, ap₂, ◌∙◌, subst, arith, inl, inr, ◌⊎◌, nat_eq, eqb}
+use Rattle.std.proofs.Common.{◌≡◌, ℕ, ◌+◌, ◌-◌, ◌<◌, ◌≤◌, List, [], ◌∷◌, ◌++◌, reverse, refl, arith, inl, inr, ◌⊎◌}
 use Rattle.std.proofs.lemmas.Bool.{ne_eqb, lt-ltb, le-ltb, cases_lt}
 use Rattle.std.proofs.lemmas.List.{reverse-append}
-use Rattle.tao_base.specs.declared.calls.Op.{Op}
 use Rattle.tao_base.specs.declared.session.Event.{Event}
 use Rattle.tao_base.specs.declared.session.Event.TheVariants.{Arrive, Done, Issue, Acked, Fault}
 use Rattle.tao_base.specs.Session.{Opening}
-use Rattle.tao_model.specs.Events.{arrived, is_on, is_pad, client_of, word_of, word_at, is_done}
+use Rattle.tao_model.specs.Events.{arrived, is_on, is_pad, client_of, word_of, word_at}
 use Rattle.tao_model.specs.Requests.{is_real, settler, word_used}
 use Rattle.tao_model.specs.Replies.{plain_reply}
 
@@ -74,6 +73,6 @@ reply_stays o es (Fault cause) i h = refl
 pub place_stays : (o : Opening) (es : List Event) (e : Event) (place : ℕ) → place < o.shape.n + arrived es → word_at o (e ∷ es) place ≡ word_at o es place
 place_stays o es e place h = either (cases_lt place o.shape.n)
   where
-  either : (place < o.shape.n) ⊎ (o.shape.n ≤ place) → word_at o (e ∷ es) place ≡ word_at o es place
-  either (inl low) = rw (lt-ltb place o.shape.n low) refl
-  either (inr high) = rw (le-ltb place o.shape.n high) (word_stays es e (place - o.shape.n) (omega arith))
+    either : (place < o.shape.n) ⊎ (o.shape.n ≤ place) → word_at o (e ∷ es) place ≡ word_at o es place
+    either (inl low) = rw (lt-ltb place o.shape.n low) refl
+    either (inr high) = rw (le-ltb place o.shape.n high) (word_stays es e (place - o.shape.n) (omega arith))

@@ -1,5 +1,5 @@
 -- One more event: what each function that looks back on a record becomes. The events before it, `es`, are newest first.
-use Rattle.std.specs.Prelude.{◌≡◌, ℕ, ◌+◌, ◌<◌, ◌≤◌, Bool, true, false, not, ◌&&◌, ◌||◌, if◌then◌else◌, List, [], ◌∷◌, ◌++◌, reverse}
+use Rattle.std.specs.Prelude.{◌≡◌, ℕ, ◌+◌, ◌<◌, ◌≤◌, true, false, not, ◌&&◌, ◌||◌, if◌then◌else◌, List, [], ◌∷◌, ◌++◌, reverse}
 use Rattle.std.specs.Option.{option_or}
 use Rattle.tao_base.specs.declared.calls.Op.{Op}
 use Rattle.tao_base.specs.declared.calls.Op.TheVariants.{Pad}
@@ -10,7 +10,7 @@ use Rattle.tao_base.specs.declared.storage.Bucket.{Bucket}
 use Rattle.tao_base.specs.Session.{Opening}
 use Rattle.tao_base.specs.Tree.{leaf_of}
 use Rattle.tao_base.specs.Array.{array_step, array_reply}
-use Rattle.tao_model.specs.Events.{arrived, dones, is_done, is_on, names, word_of}
+use Rattle.tao_model.specs.Events.{arrived, dones, is_on, names, word_of}
 use Rattle.tao_model.specs.Requests.{is_real, real_now, next_word, word_for, word_used, leaf_at, fetched_leaf, fetches, position}
 use Rattle.tao_model.specs.Replies.{array_now, plain_reply, released}
 use Rattle.tao_model.specs.Residence.{last_touch, is_resident, departs, newest_write, bucket_of}

@@ -1,5 +1,5 @@
 -- The transcript: the text that tells a whole session, line by line.
-use Rattle.std.specs.Prelude.{ℕ, ◌+◌, ◌-◌, ◌==◌, nat_le, Bool, true, false, not, ◌&&◌, if◌then◌else◌, List, [], ◌∷◌, ◌++◌, length, Option, Some, None, codes}
+use Rattle.std.specs.Prelude.{ℕ, ◌+◌, ◌-◌, ◌==◌, nat_le, Bool, if◌then◌else◌, List, [], ◌∷◌, ◌++◌, length, Option, Some, None, codes}
 use Rattle.std.specs.List.{flat_map, range_with_len, list_all}
 use Rattle.tao_base.specs.declared.calls.Op.{Op}
 use Rattle.tao_base.specs.declared.calls.Op.TheVariants.{Read, Write, Pad}

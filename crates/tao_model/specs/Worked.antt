@@ -1,8 +1,7 @@
 -- Worked records, written out as lists of events, and what their transcripts, fetched leaves and residents are.
-use Rattle.std.specs.Prelude.{◌≡◌, ℕ, Bool, true, false, List, [], ◌∷◌, ◌++◌, map, reverse, length, take, Option, Some, None, codes}
+use Rattle.std.specs.Prelude.{◌≡◌, ℕ, Bool, true, false, List, [], ◌∷◌, map, reverse, length, take, Some, codes}
 use Rattle.std.specs.List.{range_with_len}
-use Rattle.tao_base.specs.declared.calls.Op.{Op}
-use Rattle.tao_base.specs.declared.calls.Op.TheVariants.{Read, Write, Pad}
+use Rattle.tao_base.specs.declared.calls.Op.TheVariants.{Read, Write}
 use Rattle.tao_base.specs.declared.parameters.Form.TheVariants.{One}
 use Rattle.tao_base.specs.declared.session.Event.{Event}
 use Rattle.tao_base.specs.declared.session.Event.TheVariants.{Arrive, Done, Issue, Acked}
@@ -10,7 +9,7 @@ use Rattle.tao_base.specs.declared.storage.Bucket.{Bucket}
 use Rattle.tao_base.specs.declared.storage.Entry.{Entry}
 use Rattle.tao_base.specs.Limits.{Shape, shape}
 use Rattle.tao_base.specs.Session.{Opening, History}
-use Rattle.tao_model.specs.Requests.{fetched_leaf, position}
+use Rattle.tao_model.specs.Requests.{fetched_leaf}
 use Rattle.tao_model.specs.Replies.{array_now}
 use Rattle.tao_model.specs.Residence.{is_resident}
 use Rattle.tao_model.specs.Transcript.{transcript}

@@ -4,35 +4,29 @@ ghost use Rattle.tao_model.specs.OneMore.{OneMoreArrive, OneMoreDone, OneMoreIss
 /// One more arrival.
 pub fn one_more_arrive()
     ensures { OneMoreArrive }
-{
-}
+{}
 
 /// One more fetched path that was taken in.
 pub fn one_more_done()
     ensures { OneMoreDone }
-{
-}
+{}
 
 /// One more write-back.
 pub fn one_more_issue()
     ensures { OneMoreIssue }
-{
-}
+{}
 
 /// One more acknowledgement.
 pub fn one_more_acked()
     ensures { OneMoreAcked }
-{
-}
+{}
 
 /// The end of a session.
 pub fn one_more_fault()
     ensures { OneMoreFault }
-{
-}
+{}
 
 /// A pad is never real.
 pub fn pads_are_fake()
     ensures { PadsAreFake }
-{
-}
+{}

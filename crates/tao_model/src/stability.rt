@@ -5,11 +5,9 @@ ghost use Rattle.tao_model.specs.Stays.{ArrivalsStay, ReleasedGrows};
 /// change: what a caller was told stays true.
 pub fn arrivals_stay()
     ensures { ArrivalsStay }
-{
-}
+{}
 
 /// The released count never falls, so an answer that was given isn't taken back.
 pub fn released_grows()
     ensures { ReleasedGrows }
-{
-}
+{}

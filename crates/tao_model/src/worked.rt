@@ -4,43 +4,36 @@ ghost use Rattle.tao_model.specs.Worked.{OneRead, ReadWriteRead, FullPath, Overl
 /// One read of the one block, which lies in its leaf.
 pub fn one_read()
     ensures { OneRead }
-{
-}
+{}
 
 /// Read, write, read of one block: each fetch goes where the last one put it.
 pub fn read_write_read()
     ensures { ReadWriteRead }
-{
-}
+{}
 
 /// Four blocks on one path of three nodes: one waits in the stash.
 pub fn full_path()
     ensures { FullPath }
-{
-}
+{}
 
 /// Three requests of one block under way at once: the later two are fake, and all are released by the first.
 pub fn overlapping_requests()
     ensures whole { OverlappingRequests }
     ensures part { AllIsHeld }
-{
-}
+{}
 
 /// Two write-backs that are acknowledged the later first.
 pub fn write_backs_out_of_order()
     ensures { WriteBacksOutOfOrder }
-{
-}
+{}
 
 /// An acknowledgement that leaves the root, since a fetch covers it.
 pub fn kept_under_a_fetch()
     ensures whole { KeptUnderAFetch }
     ensures part { RootIsKept }
-{
-}
+{}
 
 /// Two fetches of a period of three: nothing is written back.
 pub fn no_write_back_before_the_period()
     ensures { NoWriteBackBeforeThePeriod }
-{
-}
+{}
