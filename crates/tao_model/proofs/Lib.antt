@@ -1,8 +1,13 @@
+pub mod FallingPaths
+pub mod FirstCopies
 pub mod Growth
 pub mod NodeByNode
+pub mod OneEviction
+pub mod OneLoad
 pub mod OneMoreEvent
 pub mod OnePass
 pub mod OnePlacement
+pub mod PlacedEntries
 pub mod Places
 pub mod RisingEntries
 pub mod Stays

@@ -1,17 +1,17 @@
 -- Filling node by node, the greatest first, computes a placement.
-use Rattle.std.proofs.Common.{◌≡◌, ℕ, zero, suc, ◌+◌, ◌-◌, ◌<◌, ◌≤◌, Bool, true, false, ◌&&◌, ◌||◌, cond, List, [], ◌∷◌, ◌++◌, length, fold, take, filter, slice_index_or, All, Option, Some, None, is_some, refl, sym, ap, ◌∙◌, subst, arith, inl, inr, ◌⊎◌, nat_eq, nat_lt, add-one}
-use Rattle.std.specs.List.{list_any}
-use Rattle.std.proofs.lemmas.Bool.{ne_eqb, eq-eqb, cases_lt, cases_eq, cases_Bool, and_parts, ltb-true, ltb-false, eqb-true, or_cases, true≢false}
+use Rattle.std.proofs.Common.{◌≡◌, ℕ, zero, suc, ◌+◌, ◌-◌, ◌<◌, ◌≤◌, Bool, true, false, ◌&&◌, ◌||◌, cond, List, [], ◌∷◌, ◌++◌, length, fold, take, filter, All, Option, Some, None, is_some, refl, sym, ap, ◌∙◌, subst, arith, inl, inr, ◌⊎◌, nat_eq, nat_lt, add-one}
+use Rattle.std.proofs.lemmas.Bool.{ne_eqb, eq-eqb, cases_lt, cases_eq, and_parts, ltb-true, ltb-false, eqb-true, or_cases, true≢false}
 use Rattle.std.proofs.lemmas.List.{length_push, append_assoc, append-nil}
 use Rattle.std.proofs.lemmas.List.Elements.{All-push, All-head, All-tail}
 use Rattle.std.proofs.lemmas.Option.{none-some}
 use Rattle.std.proofs.lemmas.List.Sums.{fold_more}
 use Rattle.tao_base.specs.declared.storage.Entry.{Entry}
-use Rattle.tao_model.specs.Placement.{Rises, look, IsPlaced}
-use Rattle.tao_model.specs.Passes.{IsGathered, IsRound, Falls, Handed, handed, hand, hand_out, fill}
+use Rattle.tao_model.specs.Placement.{Rises, look}
+use Rattle.tao_model.specs.Passes.{Falls, Handed, handed, hand, hand_out, fill}
 use Rattle.tao_model.specs.PlacementLaws.{IsHanded, HandsOut, HandsMore, TakesLowest, FillPlaces}
-use Rattle.tao_model.proofs.RisingEntries.{Below, look_here, look_on, look_low, look_past, look_append, rises_push}
+use Rattle.tao_model.proofs.RisingEntries.{Below, look_here, look_on, look_low, look_past}
 use Rattle.tao_model.proofs.OnePlacement.{none_either}
+use Rattle.tao_model.proofs.FallingPaths.{has, has_below}
 use Rattle.tao_model.proofs.OnePass.{not_both, below_weaker, below_put, rises_put, look_put, look_put_other}
 
 -- what was handed out of the entries of id below k
@@ -40,21 +40,24 @@ hand_step passes z there k h e true is p le has none = record {
   full = λ b may_lie stays. absurd (let all = (p.full b may_lie stays).0 in let some = ltb-true (length h.taken) z parts.1 in omega arith);
 }
   where
-  parts : (passes e.id ≡ true) × (nat_lt (length h.taken) z ≡ true)
-  parts = and_parts (passes e.id) (nat_lt (length h.taken) z) is
-  taken_low : Below e.id h.taken
-  taken_low = below_weaker k e.id h.taken le p.taken_low
-  rest_low : Below e.id h.rest
-  rest_low = below_weaker k e.id h.rest le p.rest_low
-  either : (b : ℕ) → b < e.id + 1 → (e.id ≡ b) ⊎ (e.id ≡ b → ⊥)
-      → ((look b (h.taken ++ e ∷ []) ≡ there b) × (look b h.rest ≡ None)) ⊎ ((look b (h.taken ++ e ∷ []) ≡ None) × (look b h.rest ≡ there b))
-  either b below (inl same) = subst (λ c. ((look c (h.taken ++ e ∷ []) ≡ there c) × (look c h.rest ≡ None)) ⊎ ((look c (h.taken ++ e ∷ []) ≡ None) × (look c h.rest ≡ there c))) same
-      (inl (look_put true h.taken e taken_low ∙ sym has, look_past e.id e.id h.rest rest_low (omega arith)))
-  either b below (inr other) = rw (look_put_other true h.taken e b other) (older (cases_lt b k))
-    where
-    older : (b < k) ⊎ (k ≤ b) → ((look b h.taken ≡ there b) × (look b h.rest ≡ None)) ⊎ ((look b h.taken ≡ None) × (look b h.rest ≡ there b))
-    older (inl before) = p.either b before
-    older (inr gap) = inl (look_past k b h.taken p.taken_low gap ∙ sym (none b gap (omega (arith, other))), look_past k b h.rest p.rest_low gap)
+    parts : (passes e.id ≡ true) × (nat_lt (length h.taken) z ≡ true)
+    parts = and_parts (passes e.id) (nat_lt (length h.taken) z) is
+
+    taken_low : Below e.id h.taken
+    taken_low = below_weaker k e.id h.taken le p.taken_low
+
+    rest_low : Below e.id h.rest
+    rest_low = below_weaker k e.id h.rest le p.rest_low
+
+    either : (b : ℕ) → b < e.id + 1 → (e.id ≡ b) ⊎ (e.id ≡ b → ⊥)
+        → ((look b (h.taken ++ e ∷ []) ≡ there b) × (look b h.rest ≡ None)) ⊎ ((look b (h.taken ++ e ∷ []) ≡ None) × (look b h.rest ≡ there b))
+    either b below (inl same) = subst (λ c. ((look c (h.taken ++ e ∷ []) ≡ there c) × (look c h.rest ≡ None)) ⊎ ((look c (h.taken ++ e ∷ []) ≡ None) × (look c h.rest ≡ there c))) same
+        (inl (look_put true h.taken e taken_low ∙ sym has, look_past e.id e.id h.rest rest_low (omega arith)))
+    either b below (inr other) = rw (look_put_other true h.taken e b other) (older (cases_lt b k))
+      where
+        older : (b < k) ⊎ (k ≤ b) → ((look b h.taken ≡ there b) × (look b h.rest ≡ None)) ⊎ ((look b h.taken ≡ None) × (look b h.rest ≡ there b))
+        older (inl before) = p.either b before
+        older (inr gap) = inl (look_past k b h.taken p.taken_low gap ∙ sym (none b gap (omega (arith, other))), look_past k b h.rest p.rest_low gap)
 hand_step passes z there k h e false is p le has none = record {
   taken_rises = p.taken_rises;
   rest_rises = rises_put true h.rest e p.rest_rises rest_low;
@@ -66,25 +69,28 @@ hand_step passes z there k h e false is p le has none = record {
   full = λ b may_lie stays. full b may_lie stays (cases_eq e.id b);
 }
   where
-  taken_low : Below e.id h.taken
-  taken_low = below_weaker k e.id h.taken le p.taken_low
-  rest_low : Below e.id h.rest
-  rest_low = below_weaker k e.id h.rest le p.rest_low
-  either : (b : ℕ) → b < e.id + 1 → (e.id ≡ b) ⊎ (e.id ≡ b → ⊥)
-      → ((look b h.taken ≡ there b) × (look b (h.rest ++ e ∷ []) ≡ None)) ⊎ ((look b h.taken ≡ None) × (look b (h.rest ++ e ∷ []) ≡ there b))
-  either b below (inl same) = subst (λ c. ((look c h.taken ≡ there c) × (look c (h.rest ++ e ∷ []) ≡ None)) ⊎ ((look c h.taken ≡ None) × (look c (h.rest ++ e ∷ []) ≡ there c))) same
-      (inr (look_past e.id e.id h.taken taken_low (omega arith), look_put true h.rest e rest_low ∙ sym has))
-  either b below (inr other) = rw (look_put_other true h.rest e b other) (older (cases_lt b k))
-    where
-    older : (b < k) ⊎ (k ≤ b) → ((look b h.taken ≡ there b) × (look b h.rest ≡ None)) ⊎ ((look b h.taken ≡ None) × (look b h.rest ≡ there b))
-    older (inl before) = p.either b before
-    older (inr gap) = inl (look_past k b h.taken p.taken_low gap ∙ sym (none b gap (omega (arith, other))), look_past k b h.rest p.rest_low gap)
-  full : (b : ℕ) → passes b ≡ true → is_some (look b (h.rest ++ e ∷ [])) ≡ true → (e.id ≡ b) ⊎ (e.id ≡ b → ⊥) → (length h.taken ≡ z) × Below b h.taken
-  full b may_lie stays (inr other) = p.full b may_lie (ap is_some (sym (look_put_other true h.rest e b other)) ∙ stays)
-  full b may_lie stays (inl same) =
-      let many = ltb-false (length h.taken) z (not_both (passes e.id) (nat_lt (length h.taken) z) is (ap passes same ∙ may_lie)) in
-      let few = p.room in
-      (omega arith, subst (λ c. Below c h.taken) same taken_low)
+    taken_low : Below e.id h.taken
+    taken_low = below_weaker k e.id h.taken le p.taken_low
+
+    rest_low : Below e.id h.rest
+    rest_low = below_weaker k e.id h.rest le p.rest_low
+
+    either : (b : ℕ) → b < e.id + 1 → (e.id ≡ b) ⊎ (e.id ≡ b → ⊥)
+        → ((look b h.taken ≡ there b) × (look b (h.rest ++ e ∷ []) ≡ None)) ⊎ ((look b h.taken ≡ None) × (look b (h.rest ++ e ∷ []) ≡ there b))
+    either b below (inl same) = subst (λ c. ((look c h.taken ≡ there c) × (look c (h.rest ++ e ∷ []) ≡ None)) ⊎ ((look c h.taken ≡ None) × (look c (h.rest ++ e ∷ []) ≡ there c))) same
+        (inr (look_past e.id e.id h.taken taken_low (omega arith), look_put true h.rest e rest_low ∙ sym has))
+    either b below (inr other) = rw (look_put_other true h.rest e b other) (older (cases_lt b k))
+      where
+        older : (b < k) ⊎ (k ≤ b) → ((look b h.taken ≡ there b) × (look b h.rest ≡ None)) ⊎ ((look b h.taken ≡ None) × (look b h.rest ≡ there b))
+        older (inl before) = p.either b before
+        older (inr gap) = inl (look_past k b h.taken p.taken_low gap ∙ sym (none b gap (omega (arith, other))), look_past k b h.rest p.rest_low gap)
+
+    full : (b : ℕ) → passes b ≡ true → is_some (look b (h.rest ++ e ∷ [])) ≡ true → (e.id ≡ b) ⊎ (e.id ≡ b → ⊥) → (length h.taken ≡ z) × Below b h.taken
+    full b may_lie stays (inr other) = p.full b may_lie (ap is_some (sym (look_put_other true h.rest e b other)) ∙ stays)
+    full b may_lie stays (inl same) =
+        let many = ltb-false (length h.taken) z (not_both (passes e.id) (nat_lt (length h.taken) z) is (ap passes same ∙ may_lie)) in
+        let few = p.room in
+        (omega arith, subst (λ c. Below c h.taken) same taken_low)
 
 hand_from : (passes : ℕ → Bool) (z : ℕ) (there : ℕ → Option (List ℕ)) (stash : List Entry) (k : ℕ) (h : Handed) → HandedBelow passes z there k h → Rises k stash
     → ((b : ℕ) → k ≤ b → look b stash ≡ there b) → (whole : List Entry) → ((b : ℕ) → look b whole ≡ there b)
@@ -98,14 +104,14 @@ hand_from passes z there [] k h p r looks whole is = record {
   full = p.full;
 }
   where
-  either : (b : ℕ) → (b < k) ⊎ (k ≤ b) → ((look b h.taken ≡ there b) × (look b h.rest ≡ None)) ⊎ ((look b h.taken ≡ None) × (look b h.rest ≡ there b))
-  either b (inl before) = p.either b before
-  either b (inr past) = inl (look_past k b h.taken p.taken_low past ∙ looks b past, look_past k b h.rest p.rest_low past)
+    either : (b : ℕ) → (b < k) ⊎ (k ≤ b) → ((look b h.taken ≡ there b) × (look b h.rest ≡ None)) ⊎ ((look b h.taken ≡ None) × (look b h.rest ≡ there b))
+    either b (inl before) = p.either b before
+    either b (inr past) = inl (look_past k b h.taken p.taken_low past ∙ looks b past, look_past k b h.rest p.rest_low past)
 hand_from passes z there (e ∷ stash) k h p r looks whole is =
     hand_from passes z there stash (e.id + 1) (hand passes z h e)
-        (hand_step passes z there k h e (passes e.id && nat_lt (length h.taken) z) refl p r.0 (sym (looks e.id r.0) ∙ look_here e stash e.id refl)
-            (λ b le less. sym (looks b le) ∙ look_low e.id b (e ∷ stash) (omega arith, r.1) less))
-        r.1 (λ b past. sym (look_on e stash b (λ same. omega arith)) ∙ looks b (let le = r.0 in omega arith)) whole is
+    (hand_step passes z there k h e (passes e.id && nat_lt (length h.taken) z) refl p r.0 (sym (looks e.id r.0) ∙ look_here e stash e.id refl)
+    (λ b le less. sym (looks b le) ∙ look_low e.id b (e ∷ stash) (omega arith, r.1) less))
+    r.1 (λ b past. sym (look_on e stash b (λ same. omega arith)) ∙ looks b (let le = r.0 in omega arith)) whole is
 
 pub hands_out : HandsOut
 hands_out passes z stash r = hand_from passes z (λ b. look b stash) stash 0 (handed [] []) (record {
@@ -144,9 +150,9 @@ lowest_from : (passes : ℕ → Bool) (z : ℕ) (stash : List Entry) (h : Handed
     → (fold (hand passes z) h stash).taken ≡ h.taken ++ take (z - length h.taken) (filter (λ entry. passes entry.id) stash)
 lowest_from passes z [] h = sym (ap (λ es. h.taken ++ es) (take_nil (z - length h.taken)) ∙ append-nil h.taken)
   where
-  take_nil : (n : ℕ) → take {A = Entry} n [] ≡ []
-  take_nil zero = refl
-  take_nil (suc n) = refl
+    take_nil : (n : ℕ) → take {A = Entry} n [] ≡ []
+    take_nil zero = refl
+    take_nil (suc n) = refl
 lowest_from passes z (e ∷ stash) h =
     lowest_step passes z h e (filter (λ entry. passes entry.id) stash) (λ g. (fold (hand passes z) g stash).taken) (passes e.id) (nat_lt (length h.taken) z) refl refl (λ g. lowest_from passes z stash g)
 
@@ -154,9 +160,6 @@ pub takes_lowest : TakesLowest
 takes_lowest passes z stash = lowest_from passes z stash (handed [] []) ∙ ap (λ n. take n (filter (λ entry. passes entry.id) stash)) (omega arith)
 
 -- ---- node by node
-
-abbrev has : ℕ → List ℕ → Bool
-has w nodes = list_any (λ v. nat_eq v w) nodes
 
 -- what the nodes of a list are filled with, in words
 record IsFill (may : ℕ → ℕ → Bool) (z : ℕ) (nodes : List ℕ) (stash : List Entry) (contents : ℕ → List Entry) : Type 0 where
@@ -167,23 +170,15 @@ record IsFill (may : ℕ → ℕ → Bool) (z : ℕ) (nodes : List ℕ) (stash :
   room : (w : ℕ) → 0 < w → length (contents w) ≤ z
   full : (b w : ℕ) → is_some (look b stash) ≡ true → has w nodes ≡ true → may b w ≡ true → place b < w → (length (contents w) ≡ z) × Below b (contents w)
 
-has_below : (k w : ℕ) (nodes : List ℕ) → Falls k nodes → has w nodes ≡ true → (0 < w) × (w < k)
-has_below k w [] f h = absurd (true≢false (sym h))
-has_below k w (v ∷ nodes) f h = either (has_below v w nodes f.2) (or_cases (nat_eq v w) (has w nodes) h)
-  where
-  either : (has w nodes ≡ true → (0 < w) × (w < v)) → (nat_eq v w ≡ true) ⊎ (has w nodes ≡ true) → (0 < w) × (w < k)
-  either ih (inl same) = let here = eqb-true v w same in let low = f.0 in let high = f.1 in (omega arith, omega arith)
-  either ih (inr later) = let rest = ih later in let low = rest.0 in let high = rest.1 in let next = f.1 in (low, omega arith)
-
 -- what is found in a list passes what all of it passes
 look_passes : (passes : ℕ → Bool) (b : ℕ) (x : List ℕ) (es : List Entry) → All (λ entry. passes entry.id ≡ true) es → look b es ≡ Some x → passes b ≡ true
 look_passes passes b x [] all found = absurd (none-some x found)
 look_passes passes b x (e ∷ es) all found = either (cases_eq e.id b)
     (λ other. look_passes passes b x es (All-tail (λ entry. passes entry.id ≡ true) e es all) (sym (look_on e es b other) ∙ found))
   where
-  either : (e.id ≡ b) ⊎ (e.id ≡ b → ⊥) → ((e.id ≡ b → ⊥) → passes b ≡ true) → passes b ≡ true
-  either (inl same) ih = ap passes (sym same) ∙ All-head (λ entry. passes entry.id ≡ true) e es all
-  either (inr other) ih = ih other
+    either : (e.id ≡ b) ⊎ (e.id ≡ b → ⊥) → ((e.id ≡ b → ⊥) → passes b ≡ true) → passes b ≡ true
+    either (inl same) ih = ap passes (sym same) ∙ All-head (λ entry. passes entry.id ≡ true) e es all
+    either (inr other) ih = ih other
 
 module _ (may : ℕ → ℕ → Bool) (z k w : ℕ) (ws : List ℕ) (stash taken rest : List Entry) (later : ℕ → List Entry)
     (falls : Falls k (w ∷ ws)) (h : IsHanded (λ b. may b w) z stash taken rest) (f : IsFill may z ws rest later) where
@@ -201,33 +196,35 @@ module _ (may : ℕ → ℕ → Bool) (z k w : ℕ) (ws : List ℕ) (stash taken
   untaken : (b : ℕ) → look b taken ≡ None → (spots b ≡ f.place b) × (look b rest ≡ look b stash)
   untaken b gone = (ap (λ o. cond (is_some o) w (f.place b)) gone, either (h.either b))
     where
-    either : ((look b taken ≡ look b stash) × (look b rest ≡ None)) ⊎ ((look b taken ≡ None) × (look b rest ≡ look b stash)) → look b rest ≡ look b stash
-    either (inl took) = took.1 ∙ sym gone ∙ took.0
-    either (inr left) = left.1
+      either : ((look b taken ≡ look b stash) × (look b rest ≡ None)) ⊎ ((look b taken ≡ None) × (look b rest ≡ look b stash)) → look b rest ≡ look b stash
+      either (inl took) = took.1 ∙ sym gone ∙ took.0
+      either (inr left) = left.1
 
   taken_is : (b : ℕ) (x : List ℕ) → look b taken ≡ Some x → (spots b ≡ w) × (look b stash ≡ Some x) × (look b rest ≡ None)
   taken_is b x took = either (h.either b)
     where
-    either : ((look b taken ≡ look b stash) × (look b rest ≡ None)) ⊎ ((look b taken ≡ None) × (look b rest ≡ look b stash))
-        → (spots b ≡ w) × (look b stash ≡ Some x) × (look b rest ≡ None)
-    either (inl ways) = (ap (λ o. cond (is_some o) w (f.place b)) took, sym ways.0 ∙ took, ways.1)
-    either (inr left) = absurd (none-some x (sym left.0 ∙ took))
+      either : ((look b taken ≡ look b stash) × (look b rest ≡ None)) ⊎ ((look b taken ≡ None) × (look b rest ≡ look b stash))
+          → (spots b ≡ w) × (look b stash ≡ Some x) × (look b rest ≡ None)
+      either (inl ways) = (ap (λ o. cond (is_some o) w (f.place b)) took, sym ways.0 ∙ took, ways.1)
+      either (inr left) = absurd (none-some x (sym left.0 ∙ took))
 
   lies_with : (b v : ℕ) (o : Option (List ℕ)) → look b taken ≡ o → look b (contents v) ≡ cond (nat_eq (spots b) v) (look b stash) None
   lies_with b v None gone = rw ((untaken b gone).0) (at (cases_eq v w))
     where
-    elsewhere : (v ≡ w) → f.place b ≡ v → ⊥
-    elsewhere here same = let below = later_below b (f.allowed b) in omega arith
-    at : (v ≡ w) ⊎ (v ≡ w → ⊥) → look b (contents v) ≡ cond (nat_eq (f.place b) v) (look b stash) None
-    at (inl here) = rw (eq-eqb v w here, ne_eqb (f.place b) v (elsewhere here)) gone
-    at (inr other) = rw (ne_eqb v w other) (f.lies b v ∙ ap (λ o. cond (nat_eq (f.place b) v) o None) (untaken b gone).1)
+      elsewhere : (v ≡ w) → f.place b ≡ v → ⊥
+      elsewhere here same = let below = later_below b (f.allowed b) in omega arith
+
+      at : (v ≡ w) ⊎ (v ≡ w → ⊥) → look b (contents v) ≡ cond (nat_eq (f.place b) v) (look b stash) None
+      at (inl here) = rw (eq-eqb v w here, ne_eqb (f.place b) v (elsewhere here)) gone
+      at (inr other) = rw (ne_eqb v w other) (f.lies b v ∙ ap (λ o. cond (nat_eq (f.place b) v) o None) (untaken b gone).1)
   lies_with b v (Some x) took = rw (is.0, is.1) (at (cases_eq v w))
     where
-    is : (spots b ≡ w) × (look b stash ≡ Some x) × (look b rest ≡ None)
-    is = taken_is b x took
-    at : (v ≡ w) ⊎ (v ≡ w → ⊥) → look b (contents v) ≡ cond (nat_eq w v) (Some x) None
-    at (inl here) = rw (eq-eqb v w here, eq-eqb w v (sym here)) took
-    at (inr other) = rw (ne_eqb v w other, ne_eqb w v (λ same. other (sym same))) (f.lies b v ∙ ap (λ o. cond (nat_eq (f.place b) v) o None) is.2 ∙ none_either (nat_eq (f.place b) v))
+      is : (spots b ≡ w) × (look b stash ≡ Some x) × (look b rest ≡ None)
+      is = taken_is b x took
+
+      at : (v ≡ w) ⊎ (v ≡ w → ⊥) → look b (contents v) ≡ cond (nat_eq w v) (Some x) None
+      at (inl here) = rw (eq-eqb v w here, eq-eqb w v (sym here)) took
+      at (inr other) = rw (ne_eqb v w other, ne_eqb w v (λ same. other (sym same))) (f.lies b v ∙ ap (λ o. cond (nat_eq (f.place b) v) o None) is.2 ∙ none_either (nat_eq (f.place b) v))
 
   fill_step : IsFill may z (w ∷ ws) stash contents
   fill_step = record {
@@ -239,37 +236,41 @@ module _ (may : ℕ → ℕ → Bool) (z k w : ℕ) (ws : List ℕ) (stash taken
     full = λ b v there in_list may_lie deeper. full b v (look b taken) refl there in_list may_lie deeper (cases_eq v w);
   }
     where
-    rises : (v : ℕ) (t : Bool) → Rises 0 (cond t taken (later v))
-    rises v true = h.taken_rises
-    rises v false = f.rises v
-    room : (v : ℕ) → 0 < v → (t : Bool) → length (cond t taken (later v)) ≤ z
-    room v node true = h.room
-    room v node false = f.room v node
-    or_later : (x y : Bool) → y ≡ true → (x || y) ≡ true
-    or_later true y e = refl
-    or_later false y e = e
-    allowed : (b : ℕ) (o : Option (List ℕ)) → look b taken ≡ o → (spots b ≡ 0) ⊎ ((has (spots b) (w ∷ ws) ≡ true) × (may b (spots b) ≡ true))
-    allowed b None gone = subst (λ p. (p ≡ 0) ⊎ ((has p (w ∷ ws) ≡ true) × (may b p ≡ true))) (sym (untaken b gone).0) (either (f.allowed b))
-      where
-      either : (f.place b ≡ 0) ⊎ ((has (f.place b) ws ≡ true) × (may b (f.place b) ≡ true))
-          → (f.place b ≡ 0) ⊎ (((nat_eq w (f.place b) || has (f.place b) ws) ≡ true) × (may b (f.place b) ≡ true))
-      either (inl stash) = inl stash
-      either (inr node) = inr (or_later (nat_eq w (f.place b)) (has (f.place b) ws) node.0, node.1)
-    allowed b (Some x) took = rw ((taken_is b x took).0) (inr (rw (eq-eqb w w refl) refl, look_passes (λ c. may c w) b x taken h.allowed took))
-    full : (b v : ℕ) (o : Option (List ℕ)) → look b taken ≡ o → is_some (look b stash) ≡ true → has v (w ∷ ws) ≡ true → may b v ≡ true → spots b < v
-        → (v ≡ w) ⊎ (v ≡ w → ⊥) → (length (contents v) ≡ z) × Below b (contents v)
-    full b v (Some x) took there in_list may_lie deeper at =
-        let here : w < v = rw (taken_is b x took).0 at deeper in
-        let below = (has_below (w + 1) v (w ∷ ws) (falls.0, omega arith, falls.2) in_list).1 in
-        absurd (omega arith)
-    full b v None gone there in_list may_lie deeper (inl here) =
-        rw (eq-eqb v w here) (h.full b (ap (may b) (sym here) ∙ may_lie) (ap is_some (untaken b gone).1 ∙ there))
-    full b v None gone there in_list may_lie deeper (inr other) =
-        rw (ne_eqb v w other) (f.full b v (ap is_some (untaken b gone).1 ∙ there) (in_rest (or_cases (nat_eq w v) (has v ws) in_list)) may_lie (rw (untaken b gone).0 at deeper))
-      where
-      in_rest : (nat_eq w v ≡ true) ⊎ (has v ws ≡ true) → has v ws ≡ true
-      in_rest (inl same) = absurd (other (sym (eqb-true w v same)))
-      in_rest (inr later) = later
+      rises : (v : ℕ) (t : Bool) → Rises 0 (cond t taken (later v))
+      rises v true = h.taken_rises
+      rises v false = f.rises v
+
+      room : (v : ℕ) → 0 < v → (t : Bool) → length (cond t taken (later v)) ≤ z
+      room v node true = h.room
+      room v node false = f.room v node
+
+      or_later : (x y : Bool) → y ≡ true → (x || y) ≡ true
+      or_later true y e = refl
+      or_later false y e = e
+
+      allowed : (b : ℕ) (o : Option (List ℕ)) → look b taken ≡ o → (spots b ≡ 0) ⊎ ((has (spots b) (w ∷ ws) ≡ true) × (may b (spots b) ≡ true))
+      allowed b None gone = subst (λ p. (p ≡ 0) ⊎ ((has p (w ∷ ws) ≡ true) × (may b p ≡ true))) (sym (untaken b gone).0) (either (f.allowed b))
+        where
+          either : (f.place b ≡ 0) ⊎ ((has (f.place b) ws ≡ true) × (may b (f.place b) ≡ true))
+              → (f.place b ≡ 0) ⊎ (((nat_eq w (f.place b) || has (f.place b) ws) ≡ true) × (may b (f.place b) ≡ true))
+          either (inl stash) = inl stash
+          either (inr node) = inr (or_later (nat_eq w (f.place b)) (has (f.place b) ws) node.0, node.1)
+      allowed b (Some x) took = rw ((taken_is b x took).0) (inr (rw (eq-eqb w w refl) refl, look_passes (λ c. may c w) b x taken h.allowed took))
+
+      full : (b v : ℕ) (o : Option (List ℕ)) → look b taken ≡ o → is_some (look b stash) ≡ true → has v (w ∷ ws) ≡ true → may b v ≡ true → spots b < v
+          → (v ≡ w) ⊎ (v ≡ w → ⊥) → (length (contents v) ≡ z) × Below b (contents v)
+      full b v (Some x) took there in_list may_lie deeper at =
+          let here : w < v = rw (taken_is b x took).0 at deeper in
+          let below = (has_below (w + 1) v (w ∷ ws) (falls.0, omega arith, falls.2) in_list).1 in
+          absurd (omega arith)
+      full b v None gone there in_list may_lie deeper (inl here) =
+          rw (eq-eqb v w here) (h.full b (ap (may b) (sym here) ∙ may_lie) (ap is_some (untaken b gone).1 ∙ there))
+      full b v None gone there in_list may_lie deeper (inr other) =
+          rw (ne_eqb v w other) (f.full b v (ap is_some (untaken b gone).1 ∙ there) (in_rest (or_cases (nat_eq w v) (has v ws) in_list)) may_lie (rw (untaken b gone).0 at deeper))
+        where
+          in_rest : (nat_eq w v ≡ true) ⊎ (has v ws ≡ true) → has v ws ≡ true
+          in_rest (inl same) = absurd (other (sym (eqb-true w v same)))
+          in_rest (inr later) = later
 
 fill_is : (may : ℕ → ℕ → Bool) (z k : ℕ) (nodes : List ℕ) (stash : List Entry) → Falls k nodes → Rises 0 stash → IsFill may z nodes stash (fill may z nodes stash)
 fill_is may z k [] stash falls r = record {
@@ -281,16 +282,17 @@ fill_is may z k [] stash falls r = record {
   full = λ b v there in_list. absurd (true≢false (sym in_list));
 }
   where
-  rises : (v : ℕ) (t : Bool) → Rises 0 (cond t stash [])
-  rises v true = r
-  rises v false = tt
-  lies : (b v : ℕ) → (v ≡ 0) ⊎ (v ≡ 0 → ⊥) → look b (cond (nat_eq v 0) stash []) ≡ cond (nat_eq 0 v) (look b stash) None
-  lies b v (inl here) = rw (eq-eqb v 0 here, eq-eqb 0 v (sym here)) refl
-  lies b v (inr other) = rw (ne_eqb v 0 other, ne_eqb 0 v (λ same. other (sym same))) refl
+    rises : (v : ℕ) (t : Bool) → Rises 0 (cond t stash [])
+    rises v true = r
+    rises v false = tt
+
+    lies : (b v : ℕ) → (v ≡ 0) ⊎ (v ≡ 0 → ⊥) → look b (cond (nat_eq v 0) stash []) ≡ cond (nat_eq 0 v) (look b stash) None
+    lies b v (inl here) = rw (eq-eqb v 0 here, eq-eqb 0 v (sym here)) refl
+    lies b v (inr other) = rw (ne_eqb v 0 other, ne_eqb 0 v (λ same. other (sym same))) refl
 fill_is may z k (w ∷ ws) stash falls r =
     let h = hands_out (λ b. may b w) z stash r in
     fill_step may z k w ws stash (hand_out (λ b. may b w) z stash).taken (hand_out (λ b. may b w) z stash).rest
-        (fill may z ws (hand_out (λ b. may b w) z stash).rest) falls h (fill_is may z w ws (hand_out (λ b. may b w) z stash).rest falls.2 h.rest_rises)
+    (fill may z ws (hand_out (λ b. may b w) z stash).rest) falls h (fill_is may z w ws (hand_out (λ b. may b w) z stash).rest falls.2 h.rest_rises)
 
 pub fill_places : FillPlaces
 fill_places may m z gathered nodes entries is round = record {
@@ -302,8 +304,9 @@ fill_places may m z gathered nodes entries is round = record {
   full = λ b w within may_lie deeper. f.full b w (ap is_some (is.looks b) ∙ is.among b w may_lie) (round.all b w (omega arith) within may_lie) may_lie deeper;
 }
   where
-  f : IsFill may z nodes entries (fill may z nodes entries)
-  f = fill_is may z (m + 1) nodes entries round.falls is.rises
-  allowed : (b : ℕ) → (f.place b ≡ 0) ⊎ ((has (f.place b) nodes ≡ true) × (may b (f.place b) ≡ true)) → (f.place b ≡ 0) ⊎ ((f.place b ≤ m) × (may b (f.place b) ≡ true))
-  allowed b (inl waits) = inl waits
-  allowed b (inr node) = let below = (has_below (m + 1) (f.place b) nodes round.falls node.0).1 in inr (omega arith, node.1)
+    f : IsFill may z nodes entries (fill may z nodes entries)
+    f = fill_is may z (m + 1) nodes entries round.falls is.rises
+
+    allowed : (b : ℕ) → (f.place b ≡ 0) ⊎ ((has (f.place b) nodes ≡ true) × (may b (f.place b) ≡ true)) → (f.place b ≡ 0) ⊎ ((f.place b ≤ m) × (may b (f.place b) ≡ true))
+    allowed b (inl waits) = inl waits
+    allowed b (inr node) = let below = (has_below (m + 1) (f.place b) nodes round.falls node.0).1 in inr (omega arith, node.1)

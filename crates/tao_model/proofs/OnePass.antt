@@ -1,12 +1,12 @@
 -- One pass in rising id computes a placement.
-use Rattle.std.proofs.Common.{◌≡◌, ℕ, zero, suc, ◌+◌, ◌<◌, ◌≤◌, Bool, true, false, ◌&&◌, cond, List, [], ◌∷◌, ◌++◌, length, fold, All, Option, Some, None, is_some, refl, sym, ap, ◌∙◌, subst, arith, inl, inr, ◌⊎◌, nat_eq, nat_lt}
+use Rattle.std.proofs.Common.{◌≡◌, ℕ, zero, suc, ◌+◌, ◌<◌, ◌≤◌, Bool, true, false, ◌&&◌, cond, List, [], ◌∷◌, ◌++◌, length, fold, Option, Some, None, is_some, refl, sym, ap, ◌∙◌, subst, arith, inl, inr, ◌⊎◌, nat_eq, nat_lt}
 use Rattle.std.specs.Option.{option_or}
-use Rattle.std.proofs.lemmas.Bool.{ne_eqb, eq-eqb, cases_lt, cases_eq, cases_Bool, and_parts, and_from, ltb-true, ltb-false, lt-ltb, true≢false}
+use Rattle.std.proofs.lemmas.Bool.{ne_eqb, eq-eqb, cases_lt, cases_eq, and_parts, ltb-true, ltb-false, true≢false}
 use Rattle.std.proofs.lemmas.List.{length_push}
 use Rattle.std.proofs.lemmas.List.Elements.{All-push, All-weaker}
 use Rattle.tao_base.specs.declared.storage.Entry.{Entry}
 use Rattle.tao_model.specs.Placement.{Rises, look, IsPlaced}
-use Rattle.tao_model.specs.Passes.{IsGathered, deepest, spot, put_at, put_next, one_pass}
+use Rattle.tao_model.specs.Passes.{deepest, spot, put_at, put_next}
 use Rattle.tao_model.specs.PlacementLaws.{PassPlaces}
 use Rattle.tao_model.proofs.RisingEntries.{Below, look_here, look_on, look_low, look_past, look_append, rises_push}
 use Rattle.tao_model.proofs.OnePlacement.{none_either}
@@ -25,9 +25,9 @@ deepest_step passes m r false is d = record {
   none = λ w above within. either w above within (cases_eq w (m + 1));
 }
   where
-  either : (w : ℕ) → r < w → w ≤ m + 1 → (w ≡ m + 1) ⊎ (w ≡ m + 1 → ⊥) → passes w ≡ false
-  either w above within (inl last) = ap passes last ∙ is
-  either w above within (inr other) = d.none w above (omega (arith, other))
+    either : (w : ℕ) → r < w → w ≤ m + 1 → (w ≡ m + 1) ⊎ (w ≡ m + 1 → ⊥) → passes w ≡ false
+    either w above within (inl last) = ap passes last ∙ is
+    either w above within (inr other) = d.none w above (omega (arith, other))
 
 pub deepest_is : (passes : ℕ → Bool) (m : ℕ) → IsDeepest passes m (deepest passes m)
 deepest_is passes zero = record { within = omega arith; here = inl refl; none = λ w above within. absurd (omega arith) }
@@ -61,16 +61,17 @@ spot_is may m z contents b = record {
   none = λ w above within may_lie. ltb-false (length (contents w)) z (not_both (may b w) (nat_lt (length (contents w)) z) (d.none w above within) may_lie);
 }
   where
-  d : IsDeepest (λ w. may b w && nat_lt (length (contents w)) z) m (spot may m z contents b)
-  d = deepest_is (λ w. may b w && nat_lt (length (contents w)) z) m
-  either : (spot may m z contents b ≡ 0) ⊎ ((may b (spot may m z contents b) && nat_lt (length (contents (spot may m z contents b))) z) ≡ true)
-      → (spot may m z contents b ≡ 0) ⊎ ((may b (spot may m z contents b) ≡ true) × (length (contents (spot may m z contents b)) < z))
-  either (inl stash) = inl stash
-  either (inr passes) =
-      let parts = and_parts (may b (spot may m z contents b)) (nat_lt (length (contents (spot may m z contents b))) z) passes in
-      inr (parts.0, ltb-true (length (contents (spot may m z contents b))) z parts.1)
+    d : IsDeepest (λ w. may b w && nat_lt (length (contents w)) z) m (spot may m z contents b)
+    d = deepest_is (λ w. may b w && nat_lt (length (contents w)) z) m
 
-or_none : {X : Type 0} (o : Option X) → option_or o None ≡ o
+    either : (spot may m z contents b ≡ 0) ⊎ ((may b (spot may m z contents b) && nat_lt (length (contents (spot may m z contents b))) z) ≡ true)
+        → (spot may m z contents b ≡ 0) ⊎ ((may b (spot may m z contents b) ≡ true) × (length (contents (spot may m z contents b)) < z))
+    either (inl stash) = inl stash
+    either (inr passes) =
+        let parts = and_parts (may b (spot may m z contents b)) (nat_lt (length (contents (spot may m z contents b))) z) passes in
+        inr (parts.0, ltb-true (length (contents (spot may m z contents b))) z parts.1)
+
+pub or_none : {X : Type 0} (o : Option X) → option_or o None ≡ o
 or_none None = refl
 or_none (Some x) = refl
 
@@ -110,53 +111,61 @@ module _ (may : ℕ → ℕ → Bool) (m z : ℕ) (gathered : ℕ → Option (Li
     full = λ b w below within may_lie. full b w below within may_lie (cases_eq b e.id);
   }
     where
-    at : ℕ
-    at = spot may m z contents e.id
-    is : IsSpot may m z contents e.id at
-    is = spot_is may m z contents e.id
-    low : (w : ℕ) → Below e.id (contents w)
-    low w = below_weaker k e.id (contents w) le (p.low w)
-    lies : (b w : ℕ) → b < e.id + 1 → (b ≡ e.id) ⊎ (b ≡ e.id → ⊥)
-        → look b (put_at contents at e w) ≡ cond (nat_eq (cond (nat_eq b e.id) at (p.place b)) w) (gathered b) None
-    lies b w below (inl same) = rw (eq-eqb b e.id same, same, has) (look_put (nat_eq at w) (contents w) e (low w))
-    lies b w below (inr other) = rw (ne_eqb b e.id other) (look_put_other (nat_eq at w) (contents w) e b (λ s. other (sym s)) ∙ older (cases_lt b k))
-      where
-      older : (b < k) ⊎ (k ≤ b) → look b (contents w) ≡ cond (nat_eq (p.place b) w) (gathered b) None
-      older (inl before) = p.lies b w before
-      older (inr gap) = look_past k b (contents w) (p.low w) gap
-          ∙ sym (ap (λ g. cond (nat_eq (p.place b) w) g None) (none b gap (omega (arith, other))) ∙ none_either (nat_eq (p.place b) w))
-    allowed : (b : ℕ) → (b ≡ e.id) ⊎ (b ≡ e.id → ⊥)
-        → (cond (nat_eq b e.id) at (p.place b) ≡ 0) ⊎ ((cond (nat_eq b e.id) at (p.place b) ≤ m) × (may b (cond (nat_eq b e.id) at (p.place b)) ≡ true))
-    allowed b (inr other) = rw (ne_eqb b e.id other) (p.allowed b)
-    allowed b (inl same) = rw (eq-eqb b e.id same) (either is.here)
-      where
-      either : (at ≡ 0) ⊎ ((may e.id at ≡ true) × (length (contents at) < z)) → (at ≡ 0) ⊎ ((at ≤ m) × (may b at ≡ true))
-      either (inl stash) = inl stash
-      either (inr node) = inr (is.within, ap (λ c. may c at) same ∙ node.0)
-    has_room : 0 < at → length (contents at) < z
-    has_room node = either is.here
-      where
-      either : (at ≡ 0) ⊎ ((may e.id at ≡ true) × (length (contents at) < z)) → length (contents at) < z
-      either (inl stash) = absurd (omega arith)
-      either (inr here) = here.1
-    room : (w : ℕ) → 0 < w → (at ≡ w) ⊎ (at ≡ w → ⊥) → length (put_at contents at e w) ≤ z
-    room w node (inr other) = rw (ne_eqb at w other) (p.room w node)
-    room w node (inl same) = rw (eq-eqb at w same)
-        (let more = length_push (contents w) e in let some : length (contents w) < z = subst (λ v. length (contents v) < z) same (has_room (omega arith)) in omega arith)
-    full : (b w : ℕ) → b < e.id + 1 → w ≤ m → may b w ≡ true → (b ≡ e.id) ⊎ (b ≡ e.id → ⊥) → cond (nat_eq b e.id) at (p.place b) < w
-        → (length (put_at contents at e w) ≡ z) × Below b (put_at contents at e w)
-    full b w below within may_lie (inl same) = rw (eq-eqb b e.id same) (λ deeper. rw (ne_eqb at w (λ s. omega arith))
-        (let many = is.none w deeper within (ap (λ c. may c w) (sym same) ∙ may_lie) in let few = p.room w (omega arith) in omega arith,
-        subst (λ c. Below c (contents w)) (sym same) (low w)))
-    full b w below within may_lie (inr other) = rw (ne_eqb b e.id other) (λ deeper. older deeper (cases_lt b k))
-      where
-      older : p.place b < w → (b < k) ⊎ (k ≤ b) → (length (put_at contents at e w) ≡ z) × Below b (put_at contents at e w)
-      older deeper (inr gap) = absurd (true≢false (sym (among b w may_lie) ∙ ap is_some (none b gap (omega (arith, other)))))
-      older deeper (inl before) =
-          let is_full = p.full b w before within may_lie deeper in
-          let all = is_full.0 in
-          let elsewhere : (at ≡ w → ⊥) = λ same. let some : length (contents w) < z = subst (λ v. length (contents v) < z) same (has_room (omega arith)) in omega arith in
-          rw (ne_eqb at w elsewhere) is_full
+      at : ℕ
+      at = spot may m z contents e.id
+
+      is : IsSpot may m z contents e.id at
+      is = spot_is may m z contents e.id
+
+      low : (w : ℕ) → Below e.id (contents w)
+      low w = below_weaker k e.id (contents w) le (p.low w)
+
+      lies : (b w : ℕ) → b < e.id + 1 → (b ≡ e.id) ⊎ (b ≡ e.id → ⊥)
+          → look b (put_at contents at e w) ≡ cond (nat_eq (cond (nat_eq b e.id) at (p.place b)) w) (gathered b) None
+      lies b w below (inl same) = rw (eq-eqb b e.id same, same, has) (look_put (nat_eq at w) (contents w) e (low w))
+      lies b w below (inr other) = rw (ne_eqb b e.id other) (look_put_other (nat_eq at w) (contents w) e b (λ s. other (sym s)) ∙ older (cases_lt b k))
+        where
+          older : (b < k) ⊎ (k ≤ b) → look b (contents w) ≡ cond (nat_eq (p.place b) w) (gathered b) None
+          older (inl before) = p.lies b w before
+          older (inr gap) = look_past k b (contents w) (p.low w) gap
+              ∙ sym (ap (λ g. cond (nat_eq (p.place b) w) g None) (none b gap (omega (arith, other))) ∙ none_either (nat_eq (p.place b) w))
+
+      allowed : (b : ℕ) → (b ≡ e.id) ⊎ (b ≡ e.id → ⊥)
+          → (cond (nat_eq b e.id) at (p.place b) ≡ 0) ⊎ ((cond (nat_eq b e.id) at (p.place b) ≤ m) × (may b (cond (nat_eq b e.id) at (p.place b)) ≡ true))
+      allowed b (inr other) = rw (ne_eqb b e.id other) (p.allowed b)
+      allowed b (inl same) = rw (eq-eqb b e.id same) (either is.here)
+        where
+          either : (at ≡ 0) ⊎ ((may e.id at ≡ true) × (length (contents at) < z)) → (at ≡ 0) ⊎ ((at ≤ m) × (may b at ≡ true))
+          either (inl stash) = inl stash
+          either (inr node) = inr (is.within, ap (λ c. may c at) same ∙ node.0)
+
+      has_room : 0 < at → length (contents at) < z
+      has_room node = either is.here
+        where
+          either : (at ≡ 0) ⊎ ((may e.id at ≡ true) × (length (contents at) < z)) → length (contents at) < z
+          either (inl stash) = absurd (omega arith)
+          either (inr here) = here.1
+
+      room : (w : ℕ) → 0 < w → (at ≡ w) ⊎ (at ≡ w → ⊥) → length (put_at contents at e w) ≤ z
+      room w node (inr other) = rw (ne_eqb at w other) (p.room w node)
+      room w node (inl same) = rw (eq-eqb at w same)
+          (let more = length_push (contents w) e in let some : length (contents w) < z = subst (λ v. length (contents v) < z) same (has_room (omega arith)) in omega arith)
+
+      full : (b w : ℕ) → b < e.id + 1 → w ≤ m → may b w ≡ true → (b ≡ e.id) ⊎ (b ≡ e.id → ⊥) → cond (nat_eq b e.id) at (p.place b) < w
+          → (length (put_at contents at e w) ≡ z) × Below b (put_at contents at e w)
+      full b w below within may_lie (inl same) = rw (eq-eqb b e.id same) (λ deeper. rw (ne_eqb at w (λ s. omega arith)) (
+        let many = is.none w deeper within (ap (λ c. may c w) (sym same) ∙ may_lie) in let few = p.room w (omega arith) in omega arith,
+        subst (λ c. Below c (contents w)) (sym same) (low w),
+      ))
+      full b w below within may_lie (inr other) = rw (ne_eqb b e.id other) (λ deeper. older deeper (cases_lt b k))
+        where
+          older : p.place b < w → (b < k) ⊎ (k ≤ b) → (length (put_at contents at e w) ≡ z) × Below b (put_at contents at e w)
+          older deeper (inr gap) = absurd (true≢false (sym (among b w may_lie) ∙ ap is_some (none b gap (omega (arith, other)))))
+          older deeper (inl before) =
+              let is_full = p.full b w before within may_lie deeper in
+              let all = is_full.0 in
+              let elsewhere : (at ≡ w → ⊥) = λ same. let some : length (contents w) < z = subst (λ v. length (contents v) < z) same (has_room (omega arith)) in omega arith in
+              rw (ne_eqb at w elsewhere) is_full
 
   pass_from : (entries : List Entry) (k : ℕ) (contents : ℕ → List Entry) → PlacedBelow may m z gathered k contents → Rises k entries
       → ((b : ℕ) → k ≤ b → look b entries ≡ gathered b) → IsPlaced may m z gathered (fold (put_next may m z) contents entries)
@@ -169,18 +178,19 @@ module _ (may : ℕ → ℕ → Bool) (m z : ℕ) (gathered : ℕ → Option (Li
     full = λ b w within may_lie deeper. full b w within may_lie deeper (cases_lt b k);
   }
     where
-    lies : (b w : ℕ) → (b < k) ⊎ (k ≤ b) → look b (contents w) ≡ cond (nat_eq (p.place b) w) (gathered b) None
-    lies b w (inl before) = p.lies b w before
-    lies b w (inr past) = look_past k b (contents w) (p.low w) past
-        ∙ sym (ap (λ g. cond (nat_eq (p.place b) w) g None) (sym (looks b past)) ∙ none_either (nat_eq (p.place b) w))
-    full : (b w : ℕ) → w ≤ m → may b w ≡ true → p.place b < w → (b < k) ⊎ (k ≤ b) → (length (contents w) ≡ z) × Below b (contents w)
-    full b w within may_lie deeper (inl before) = p.full b w before within may_lie deeper
-    full b w within may_lie deeper (inr past) = absurd (true≢false (sym (among b w may_lie) ∙ ap is_some (sym (looks b past))))
+      lies : (b w : ℕ) → (b < k) ⊎ (k ≤ b) → look b (contents w) ≡ cond (nat_eq (p.place b) w) (gathered b) None
+      lies b w (inl before) = p.lies b w before
+      lies b w (inr past) = look_past k b (contents w) (p.low w) past
+          ∙ sym (ap (λ g. cond (nat_eq (p.place b) w) g None) (sym (looks b past)) ∙ none_either (nat_eq (p.place b) w))
+
+      full : (b w : ℕ) → w ≤ m → may b w ≡ true → p.place b < w → (b < k) ⊎ (k ≤ b) → (length (contents w) ≡ z) × Below b (contents w)
+      full b w within may_lie deeper (inl before) = p.full b w before within may_lie deeper
+      full b w within may_lie deeper (inr past) = absurd (true≢false (sym (among b w may_lie) ∙ ap is_some (sym (looks b past))))
   pass_from (e ∷ entries) k contents p r looks =
       pass_from entries (e.id + 1) (put_next may m z contents e)
-          (put_step k contents e p r.0 (sym (looks e.id r.0) ∙ look_here e entries e.id refl)
-              (λ b le less. sym (looks b le) ∙ look_low e.id b (e ∷ entries) (omega arith, r.1) less))
-          r.1 (λ b past. sym (look_on e entries b (λ same. omega arith)) ∙ looks b (let le = r.0 in omega arith))
+      (put_step k contents e p r.0 (sym (looks e.id r.0) ∙ look_here e entries e.id refl)
+      (λ b le less. sym (looks b le) ∙ look_low e.id b (e ∷ entries) (omega arith, r.1) less))
+      r.1 (λ b past. sym (look_on e entries b (λ same. omega arith)) ∙ looks b (let le = r.0 in omega arith))
 
 pub pass_places : PassPlaces
 pass_places may m z gathered entries is = pass_from may m z gathered is.among entries 0 (λ w. []) (record {

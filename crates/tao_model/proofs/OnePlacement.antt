@@ -1,8 +1,8 @@
 -- There is at most one placement: lowest id first, two placements that agree on all lower ids agree on the next.
-use Rattle.std.proofs.Common.{◌≡◌, ℕ, zero, suc, ◌+◌, ◌<◌, ◌≤◌, Bool, true, false, cond, List, [], ◌∷◌, length, All, Option, Some, None, refl, sym, ap, ◌∙◌, subst, arith, inl, inr, ◌⊎◌, nat_eq}
-use Rattle.std.proofs.lemmas.Bool.{ne_eqb, eq-eqb, cases_lt, cases_eq, cases_order}
+use Rattle.std.proofs.Common.{◌≡◌, ℕ, zero, suc, ◌<◌, ◌≤◌, Bool, true, false, cond, List, length, Option, Some, None, refl, sym, ap, ◌∙◌, arith, inl, inr, ◌⊎◌, nat_eq}
+use Rattle.std.proofs.lemmas.Bool.{eq-eqb, cases_lt, cases_order}
 use Rattle.tao_base.specs.declared.storage.Entry.{Entry}
-use Rattle.tao_model.specs.Placement.{Rises, look, IsPlaced}
+use Rattle.tao_model.specs.Placement.{look, IsPlaced}
 use Rattle.tao_model.specs.PlacementLaws.{OnePlacement, PlacedAlike}
 use Rattle.tao_model.proofs.RisingEntries.{same_entries, more_entries}
 
@@ -24,35 +24,36 @@ not_deeper : (may : ℕ → ℕ → Bool) (m z : ℕ) (gathered : ℕ → Option
     → AgreeBelow gathered p.place q.place b → gathered b ≡ Some x → p.place b < q.place b → ⊥
 not_deeper may m z gathered one other p q b x agree has deeper = either (q.allowed b)
   where
-  either : (q.place b ≡ 0) ⊎ ((q.place b ≤ m) × (may b (q.place b) ≡ true)) → ⊥
-  either (inl stash) = omega arith
-  either (inr node) =
-      let full = p.full b (q.place b) node.0 node.1 deeper in
-      let there : look b (other (q.place b)) ≡ Some x = q.lies b (q.place b) ∙ rw (eq-eqb (q.place b) (q.place b) refl) has in
-      let more : length (one (q.place b)) < length (other (q.place b)) =
-          more_entries b x 0 (one (q.place b)) (other (q.place b)) (p.rises (q.place b)) (q.rises (q.place b)) full.1
-              (λ c low. p.lies c (q.place b) ∙ same_at (p.place c) (q.place c) (q.place b) (gathered c) (λ y e. agree c low y e) ∙ sym (q.lies c (q.place b))) there in
-      let room = q.room (q.place b) (omega arith) in
-      let all = full.0 in
-      omega arith
+    either : (q.place b ≡ 0) ⊎ ((q.place b ≤ m) × (may b (q.place b) ≡ true)) → ⊥
+    either (inl stash) = omega arith
+    either (inr node) =
+        let full = p.full b (q.place b) node.0 node.1 deeper in
+        let there : look b (other (q.place b)) ≡ Some x = q.lies b (q.place b) ∙ rw (eq-eqb (q.place b) (q.place b) refl) has in
+        let more : length (one (q.place b)) < length (other (q.place b)) =
+        more_entries b x 0 (one (q.place b)) (other (q.place b)) (p.rises (q.place b)) (q.rises (q.place b)) full.1
+        (λ c low. p.lies c (q.place b) ∙ same_at (p.place c) (q.place c) (q.place b) (gathered c) (λ y e. agree c low y e) ∙ sym (q.lies c (q.place b))) there in
+        let room = q.room (q.place b) (omega arith) in
+        let all = full.0 in
+        omega arith
 
 agree_below : (may : ℕ → ℕ → Bool) (m z : ℕ) (gathered : ℕ → Option (List ℕ)) (one other : ℕ → List Entry)
     (p : IsPlaced may m z gathered one) (q : IsPlaced may m z gathered other) (b : ℕ) → AgreeBelow gathered p.place q.place b
 agree_below may m z gathered one other p q zero c low x has = absurd (omega arith)
 agree_below may m z gathered one other p q (suc b) c low x has = either (agree_below may m z gathered one other p q b) (cases_lt c b)
   where
-  meets : AgreeBelow gathered p.place q.place c → (p.place c ≡ q.place c) ⊎ ((p.place c < q.place c) ⊎ (q.place c < p.place c)) → p.place c ≡ q.place c
-  meets agree (inl same) = same
-  meets agree (inr (inl deeper)) = absurd (not_deeper may m z gathered one other p q c x agree has deeper)
-  meets agree (inr (inr deeper)) = absurd (not_deeper may m z gathered other one q p c x (λ d k y e. sym (agree d k y e)) has deeper)
-  either : AgreeBelow gathered p.place q.place b → (c < b) ⊎ (b ≤ c) → p.place c ≡ q.place c
-  either agree (inl before) = agree c before x has
-  either agree (inr here) = meets (λ d k y e. agree d (omega arith) y e) (cases_order (p.place c) (q.place c))
+    meets : AgreeBelow gathered p.place q.place c → (p.place c ≡ q.place c) ⊎ ((p.place c < q.place c) ⊎ (q.place c < p.place c)) → p.place c ≡ q.place c
+    meets agree (inl same) = same
+    meets agree (inr (inl deeper)) = absurd (not_deeper may m z gathered one other p q c x agree has deeper)
+    meets agree (inr (inr deeper)) = absurd (not_deeper may m z gathered other one q p c x (λ d k y e. sym (agree d k y e)) has deeper)
+
+    either : AgreeBelow gathered p.place q.place b → (c < b) ⊎ (b ≤ c) → p.place c ≡ q.place c
+    either agree (inl before) = agree c before x has
+    either agree (inr here) = meets (λ d k y e. agree d (omega arith) y e) (cases_order (p.place c) (q.place c))
 
 pub one_placement : OnePlacement
 one_placement may m z gathered one other p q w =
     same_entries 0 (one w) (other w) (p.rises w) (q.rises w)
-        (λ b. p.lies b w ∙ same_at (p.place b) (q.place b) w (gathered b) (λ x e. agree_below may m z gathered one other p q (suc b) b (omega arith) x e) ∙ sym (q.lies b w))
+    (λ b. p.lies b w ∙ same_at (p.place b) (q.place b) w (gathered b) (λ x e. agree_below may m z gathered one other p q (suc b) b (omega arith) x e) ∙ sym (q.lies b w))
 
 pub placed_alike : PlacedAlike
 placed_alike may may' m z gathered gathered' contents contents' allows gathers has p = record {

@@ -1,4 +1,6 @@
+pub mod Copies
 pub mod Events
+pub mod Evictions
 pub mod Lawful
 pub mod OneMore
 pub mod Passes

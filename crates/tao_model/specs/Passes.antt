@@ -1,5 +1,5 @@
 -- Ways to compute a placement: what is gathered, one pass in rising id, and node by node from the greatest on. Node 0 is the stash.
-use Rattle.std.specs.Prelude.{◌≡◌, ℕ, zero, suc, ◌+◌, ◌<◌, ◌≤◌, ◌==◌, nat_lt, Bool, true, false, ◌&&◌, if◌then◌else◌, List, [], ◌∷◌, ◌++◌, length, fold, All, Option, is_some, ⊤}
+use Rattle.std.specs.Prelude.{◌≡◌, ℕ, zero, suc, ◌+◌, ◌<◌, ◌≤◌, ◌==◌, nat_lt, Bool, true, ◌&&◌, if◌then◌else◌, List, [], ◌∷◌, ◌++◌, length, fold, Option, is_some, ⊤}
 use Rattle.std.specs.List.{list_any}
 use Rattle.tao_base.specs.declared.storage.Entry.{Entry}
 use Rattle.tao_model.specs.Placement.{Rises, look}

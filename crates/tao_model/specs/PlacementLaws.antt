@@ -1,5 +1,5 @@
 -- Laws of placement: there is exactly one, for a load and for an eviction, and ways to compute it.
-use Rattle.std.specs.Prelude.{◌≡◌, ℕ, ◌+◌, ◌<◌, ◌≤◌, ◌⊎◌, ◌==◌, nat_lt, Bool, true, false, ◌&&◌, if◌then◌else◌, List, [], ◌∷◌, ◌++◌, length, take, filter, slice_index_or, Option, Some, None, is_some, All, ⊤}
+use Rattle.std.specs.Prelude.{◌≡◌, ℕ, ◌+◌, ◌<◌, ◌≤◌, ◌⊎◌, Bool, true, List, length, take, filter, slice_index_or, Option, None, is_some, All}
 use Rattle.tao_base.specs.declared.storage.Entry.{Entry}
 use Rattle.tao_model.specs.Placement.{Rises, look, IsPlaced}
 use Rattle.tao_model.specs.Passes.{IsGathered, IsRound, one_pass, hand, hand_out, fill}

@@ -2,14 +2,32 @@
 //! There is no code but the laws: functions with empty bodies whose contract is the law.
 #![tactic(auto)]
 
+mod copies;
+mod evictions;
 mod one_more;
+mod placement;
 mod stability;
 mod trace;
 mod worked;
 
+pub use copies::{
+    few_entries, first_copy_counts, gathers_first, gathers_more, gathers_new, gathers_old,
+    gathers_stash, no_copy, same_entries, stash_goes_first,
+};
+pub use evictions::{
+    entries_are_gathered, eviction_fills, eviction_gathers, eviction_is_placed, eviction_round,
+    first_copy_stays, load_gathers, load_is_placed, load_spot, one_eviction, one_load, one_opening,
+    opens_so, path_falls, spot_is_first,
+};
 pub use one_more::{
     one_more_acked, one_more_arrive, one_more_done, one_more_fault, one_more_issue, pads_are_fake,
 };
+pub use placement::{
+    fill_places, hands_more, hands_out, one_placement, pass_places, placed_alike, takes_lowest,
+};
 pub use stability::{arrivals_stay, released_grows};
 pub use trace::Request;
-pub use worked::{full_path, kept_under_a_fetch, no_write_back_before_the_period, one_read, overlapping_requests, read_write_read, write_backs_out_of_order};
+pub use worked::{
+    full_path, kept_under_a_fetch, no_write_back_before_the_period, one_read, overlapping_requests,
+    read_write_read, write_backs_out_of_order,
+};
