@@ -1,7 +1,7 @@
 -- Paths fall from the leaf to the root, and the greatest node is the first from the leaf up.
 use Rattle.std.proofs.Common.{◌≡◌, ℕ, zero, suc, ◌+◌, ◌*◌, ◌^◌, ◌<◌, ◌≤◌, Bool, true, false, ◌&&◌, ◌||◌, cond, List, [], ◌∷◌, ◌++◌, map, reverse, length, refl, sym, ap, ◌∙◌, arith, inl, inr, ◌⊎◌, nat_eq, nat_lt, add-one}
 use Rattle.std.specs.List.{list_any, range_with_len}
-use Rattle.std.proofs.lemmas.Bool.{ne_eqb, eq-eqb, cases_eq, cases_Bool, cases_order, and_parts, eqb-true, lt-ltb, or_cases, true≢false, false_from_ne_true}
+use Rattle.std.proofs.lemmas.Bool.{ne_eqb, eq-eqb, cases_eq, cases_Bool, and_parts, eqb-true, lt-ltb, or_cases, true≢false, false_from_ne_true}
 use Rattle.std.proofs.lemmas.List.{reverse-append}
 use Rattle.std.proofs.lemmas.List.FromFn.{map-range_with_len_more}
 use Rattle.std.proofs.lemmas.Nat.{pow_pos, pow-add}
@@ -10,7 +10,9 @@ use Rattle.tao_base.proofs.TreeLemmas.{node_low, node_high}
 use Rattle.tao_model.specs.Placement.{may_load}
 use Rattle.tao_model.specs.Passes.{Falls, spot, first_passing}
 use Rattle.tao_model.specs.Evictions.{PathFalls, SpotIsFirst, LoadSpot}
-use Rattle.tao_model.proofs.OnePass.{IsDeepest, deepest_is}
+use Rattle.tao_model.specs.Greatest.{IsGreatest}
+use Rattle.tao_model.proofs.GreatestNumbers.{one_greatest}
+use Rattle.tao_model.proofs.OnePass.{deepest_is}
 
 -- whether a list has a node
 abbrev pub has : ℕ → List ℕ → Bool
@@ -87,24 +89,9 @@ path_falls l leaf small = let some = pow_pos (l + 1) in top_falls l leaf (l + 1)
 
 -- ---- the greatest is the first of a falling list
 
-one_deepest : (passes : ℕ → Bool) (m r s : ℕ) → IsDeepest passes m r → IsDeepest passes m s → r ≡ s
-one_deepest passes m r s d e = either (cases_order r s)
-  where
-    less : (r s : ℕ) → IsDeepest passes m r → IsDeepest passes m s → r < s → ⊥
-    less r s d e h = passed e.here
-      where
-        passed : (s ≡ 0) ⊎ (passes s ≡ true) → ⊥
-        passed (inl stash) = omega arith
-        passed (inr is) = true≢false (sym is ∙ d.none s h e.within)
-
-    either : (r ≡ s) ⊎ ((r < s) ⊎ (s < r)) → r ≡ s
-    either (inl same) = same
-    either (inr (inl h)) = absurd (less r s d e h)
-    either (inr (inr h)) = absurd (less s r e d h)
-
 -- `passes` passes no node off the list
 first_is : (passes : ℕ → Bool) (m : ℕ) (nodes : List ℕ) → Falls (m + 1) nodes → ((w : ℕ) → 0 < w → w ≤ m → passes w ≡ true → has w nodes ≡ true)
-    → IsDeepest passes m (first_passing passes nodes)
+    → IsGreatest passes m (first_passing passes nodes)
 first_is passes m [] f on = record {
   within = omega arith;
   here = inl refl;
@@ -116,7 +103,7 @@ first_is passes m (v ∷ nodes) f on = either (cases_Bool (passes v)) (λ fails.
     later w fails is (inl same) = absurd (true≢false (sym is ∙ ap passes (sym (eqb-true v w same)) ∙ fails))
     later w fails is (inr h) = h
 
-    either : (passes v ≡ true) ⊎ (passes v ≡ false) → (passes v ≡ false → IsDeepest passes m (first_passing passes nodes)) → IsDeepest passes m (first_passing passes (v ∷ nodes))
+    either : (passes v ≡ true) ⊎ (passes v ≡ false) → (passes v ≡ false → IsGreatest passes m (first_passing passes nodes)) → IsGreatest passes m (first_passing passes (v ∷ nodes))
     either (inr fails) ih = rw fails (ih fails)
     either (inl is) ih = rw is (record {
       within = let less = f.1 in omega arith;
@@ -126,7 +113,7 @@ first_is passes m (v ∷ nodes) f on = either (cases_Bool (passes v)) (λ fails.
 
 pub spot_is_first : SpotIsFirst
 spot_is_first may m z contents b nodes f on =
-    one_deepest (λ w. may b w && nat_lt (length (contents w)) z) m (spot may m z contents b) (first_passing (λ w. may b w && nat_lt (length (contents w)) z) nodes)
+    one_greatest (λ w. may b w && nat_lt (length (contents w)) z) m (spot may m z contents b) (first_passing (λ w. may b w && nat_lt (length (contents w)) z) nodes)
     (deepest_is (λ w. may b w && nat_lt (length (contents w)) z) m)
     (first_is (λ w. may b w && nat_lt (length (contents w)) z) m nodes f
     (λ w low within is. on w low within (and_parts (may b w) (nat_lt (length (contents w)) z) is).0))

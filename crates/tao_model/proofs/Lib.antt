@@ -1,6 +1,10 @@
+pub mod DonesInOrder
 pub mod FallingPaths
 pub mod FirstCopies
+pub mod GreatestNumbers
 pub mod Growth
+pub mod LastReal
+pub mod NewestWrites
 pub mod NodeByNode
 pub mod OneEviction
 pub mod OneLoad
@@ -9,5 +13,7 @@ pub mod OnePass
 pub mod OnePlacement
 pub mod PlacedEntries
 pub mod Places
+pub mod PlainArrays
+pub mod RealArrivals
 pub mod RisingEntries
 pub mod Stays

@@ -17,19 +17,19 @@ use Rattle.tao_model.proofs.Places.{next_below, position_below, done_arrived}
 use Rattle.tao_model.proofs.Growth.{released_grows_later}
 
 -- the newest arrival's own word
-own_word : (o : Opening) (es : List Event) (client : ℕ) (op : Op) (word : ℕ) → word_at o (Arrive client op word ∷ es) (o.shape.n + arrived es) ≡ word
+pub own_word : (o : Opening) (es : List Event) (client : ℕ) (op : Op) (word : ℕ) → word_at o (Arrive client op word ∷ es) (o.shape.n + arrived es) ≡ word
 own_word o es client op word = rw (le-ltb (o.shape.n + arrived es) o.shape.n (omega arith), eq-eqb (o.shape.n + arrived es - o.shape.n) (arrived es) (omega arith)) refl
 
 used_newest : (o : Opening) (es : List Event) (client : ℕ) (op : Op) (word : ℕ)
     → word_used o (Arrive client op word ∷ es) (arrived es) ≡ word_for (next_word o es) (o.shape.n + arrived es) (real_now es op) op
 used_newest o es client op word = rw (eq-eqb (arrived es) (arrived es) refl) refl
 
-word_for_fake : (next : ℕ → ℕ) (new : ℕ) (op : Op) → word_for next new false op ≡ new
+pub word_for_fake : (next : ℕ → ℕ) (new : ℕ) (op : Op) → word_for next new false op ≡ new
 word_for_fake next new (Read id) = refl
 word_for_fake next new (Write id value) = refl
 word_for_fake next new Pad = refl
 
-word_for_block : (next : ℕ → ℕ) (new block : ℕ) (op : Op) → names block op ≡ true → word_for next new true op ≡ next block
+pub word_for_block : (next : ℕ → ℕ) (new block : ℕ) (op : Op) → names block op ≡ true → word_for next new true op ≡ next block
 word_for_block next new block (Read id) h = ap next (eqb-true id block h)
 word_for_block next new block (Write id value) h = ap next (eqb-true id block h)
 word_for_block next new block Pad h = absurd (true≢false (sym h))
@@ -68,7 +68,7 @@ one_more_arrive o events client op word = rw (newest_first events (Arrive client
   positions = same_positions o (reverse events) (Arrive client op word) f.0 (λ block. refl);
 })
 
-done_word : (o : Opening) (es : List Event) (arrival : ℕ) → word_at o es (o.shape.n + arrival) ≡ word_of es arrival
+pub done_word : (o : Opening) (es : List Event) (arrival : ℕ) → word_at o es (o.shape.n + arrival) ≡ word_of es arrival
 done_word o es arrival = rw (le-ltb (o.shape.n + arrival) o.shape.n (omega arith)) (ap (word_of es) (omega arith))
 
 pub one_more_done : OneMoreDone

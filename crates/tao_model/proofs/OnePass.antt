@@ -9,30 +9,14 @@ use Rattle.tao_model.specs.Placement.{Rises, look, IsPlaced}
 use Rattle.tao_model.specs.Passes.{deepest, spot, put_at, put_next}
 use Rattle.tao_model.specs.PlacementLaws.{PassPlaces}
 use Rattle.tao_model.proofs.RisingEntries.{Below, look_here, look_on, look_low, look_past, look_append, rises_push}
+use Rattle.tao_model.proofs.GreatestNumbers.{greatest_step, greatest_none}
+use Rattle.tao_model.specs.Greatest.{IsGreatest}
 use Rattle.tao_model.proofs.OnePlacement.{none_either}
 
--- the greatest number from 1 to m that passes, or 0: in words
-pub record IsDeepest (passes : ℕ → Bool) (m r : ℕ) : Type 0 where
-  pub within : r ≤ m
-  pub here : (r ≡ 0) ⊎ (passes r ≡ true)
-  pub none : (w : ℕ) → r < w → w ≤ m → passes w ≡ false
-
-deepest_step : (passes : ℕ → Bool) (m r : ℕ) (t : Bool) → passes (m + 1) ≡ t → IsDeepest passes m r → IsDeepest passes (m + 1) (cond t (m + 1) r)
-deepest_step passes m r true is d = record { within = omega arith; here = inr is; none = λ w above within. absurd (omega arith) }
-deepest_step passes m r false is d = record {
-  within = let within = d.within in omega arith;
-  here = d.here;
-  none = λ w above within. either w above within (cases_eq w (m + 1));
-}
-  where
-    either : (w : ℕ) → r < w → w ≤ m + 1 → (w ≡ m + 1) ⊎ (w ≡ m + 1 → ⊥) → passes w ≡ false
-    either w above within (inl last) = ap passes last ∙ is
-    either w above within (inr other) = d.none w above (omega (arith, other))
-
-pub deepest_is : (passes : ℕ → Bool) (m : ℕ) → IsDeepest passes m (deepest passes m)
-deepest_is passes zero = record { within = omega arith; here = inl refl; none = λ w above within. absurd (omega arith) }
-deepest_is passes (suc m) = subst (λ k. IsDeepest passes k (deepest passes (suc m))) (omega arith)
-    (deepest_step passes m (deepest passes m) (passes (m + 1)) refl (deepest_is passes m))
+pub deepest_is : (passes : ℕ → Bool) (m : ℕ) → IsGreatest passes m (deepest passes m)
+deepest_is passes zero = greatest_none passes
+deepest_is passes (suc m) = subst (λ k. IsGreatest passes k (deepest passes (suc m))) (omega arith)
+    (greatest_step passes m (deepest passes m) (passes (m + 1)) refl (deepest_is passes m))
 
 -- a placement of the blocks of id below k
 pub record PlacedBelow (may : ℕ → ℕ → Bool) (m z : ℕ) (gathered : ℕ → Option (List ℕ)) (k : ℕ) (contents : ℕ → List Entry) : Type 0 where
@@ -61,7 +45,7 @@ spot_is may m z contents b = record {
   none = λ w above within may_lie. ltb-false (length (contents w)) z (not_both (may b w) (nat_lt (length (contents w)) z) (d.none w above within) may_lie);
 }
   where
-    d : IsDeepest (λ w. may b w && nat_lt (length (contents w)) z) m (spot may m z contents b)
+    d : IsGreatest (λ w. may b w && nat_lt (length (contents w)) z) m (spot may m z contents b)
     d = deepest_is (λ w. may b w && nat_lt (length (contents w)) z) m
 
     either : (spot may m z contents b ≡ 0) ⊎ ((may b (spot may m z contents b) && nat_lt (length (contents (spot may m z contents b))) z) ≡ true)

@@ -1,7 +1,9 @@
 pub mod Copies
 pub mod Events
 pub mod Evictions
+pub mod Greatest
 pub mod Lawful
+pub mod LookBacks
 pub mod OneMore
 pub mod Passes
 pub mod Placement

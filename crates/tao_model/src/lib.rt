@@ -4,6 +4,7 @@
 
 mod copies;
 mod evictions;
+mod look_backs;
 mod one_more;
 mod placement;
 mod stability;
@@ -18,6 +19,11 @@ pub use evictions::{
     entries_are_gathered, eviction_fills, eviction_gathers, eviction_is_placed, eviction_round,
     first_copy_stays, load_gathers, load_is_placed, load_spot, one_eviction, one_load, one_opening,
     opens_so, path_falls, spot_is_first,
+};
+pub use look_backs::{
+    array_is_fold, fake_fetches_own, last_touch_is_last, newest_is_greatest, ops_arrived,
+    position_is_last, real_fetches_last, real_means, released_is_greatest, reply_is_plain,
+    settler_is_last, touched_are_nodes,
 };
 pub use one_more::{
     one_more_acked, one_more_arrive, one_more_done, one_more_fault, one_more_issue, pads_are_fake,

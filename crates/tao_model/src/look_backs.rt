@@ -1,0 +1,62 @@
+//! Laws: what the functions that look back say, in words of the whole record.
+ghost use Rattle.tao_model.specs.LookBacks.{LastTouchIsLast, TouchedAreNodes, NewestIsGreatest, RealMeans, SettlerIsLast, RealFetchesLast, FakeFetchesOwn, PositionIsLast, ReleasedIsGreatest, OpsArrived, ArrayIsFold, ReplyIsPlain};
+
+/// The last touch of a node is the last Done whose path has it.
+pub fn last_touch_is_last()
+    ensures { LastTouchIsLast }
+{}
+
+/// The nodes touched after a Done are those on the paths of the later ones: the nodes of a write-back.
+pub fn touched_are_nodes()
+    ensures { TouchedAreNodes }
+{}
+
+/// The newest write of a node is that of the greatest version that has it.
+pub fn newest_is_greatest()
+    ensures { NewestIsGreatest }
+{}
+
+/// An arrival on a block is real exactly where every earlier real one on it is done before.
+pub fn real_means()
+    ensures { RealMeans }
+{}
+
+/// What settles an arrival is the last real arrival on its block up to it.
+pub fn settler_is_last()
+    ensures { SettlerIsLast }
+{}
+
+/// A real arrival fetches the leaf that the real one before it on its block put it to.
+pub fn real_fetches_last()
+    ensures { RealFetchesLast }
+{}
+
+/// A fake arrival fetches the leaf of its own word.
+pub fn fake_fetches_own()
+    ensures { FakeFetchesOwn }
+{}
+
+/// A block's position is the leaf of the last real arrival on it that is done.
+pub fn position_is_last()
+    ensures { PositionIsLast }
+{}
+
+/// Answers are released up to the first arrival that isn't done.
+pub fn released_is_greatest()
+    ensures { ReleasedIsGreatest }
+{}
+
+/// As many operations as arrivals.
+pub fn ops_arrived()
+    ensures { OpsArrived }
+{}
+
+/// The array now is the first one after all operations.
+pub fn array_is_fold()
+    ensures { ArrayIsFold }
+{}
+
+/// An arrival's plain reply is what the array answers after the operations before it.
+pub fn reply_is_plain()
+    ensures { ReplyIsPlain }
+{}
