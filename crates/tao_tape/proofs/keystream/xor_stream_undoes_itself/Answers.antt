@@ -1,0 +1,6 @@
+-- What was xored with a stream and is xored with it again.
+use Rattle.tao_tape.proofs.Streams.{xored_again}
+use Rattle.tao_tape.proofs.keystream.xor_stream_undoes_itself.Goals as goal
+
+pub returns : goal.returns
+returns c = xored_again

@@ -1,0 +1,3 @@
+pub mod Keystream
+pub mod Tapes
+pub mod Script

@@ -1,0 +1,12 @@
+-- The source and the place of a tape that a text may have: of a key or of a list.
+use Rattle.std.specs.Prelude.{ℕ, List, ◌∷◌}
+use Rattle.tao_tape.specs.declared.script.ScriptTape.{ScriptTape}
+use Rattle.tao_tape.specs.declared.script.ScriptTape.TheVariants.{Key, Words}
+
+abbrev pub script_source : ScriptTape → List ℕ
+script_source (Key tape) = 0 ∷ tape.source
+script_source (Words tape) = 1 ∷ tape.source
+
+abbrev pub script_place : ScriptTape → ℕ
+script_place (Key tape) = tape.place
+script_place (Words tape) = tape.place
