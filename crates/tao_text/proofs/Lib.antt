@@ -1,1 +1,4 @@
 pub mod Appended
+pub mod Cuts
+pub mod Numbers
+pub mod Tapes

@@ -1,2 +1,5 @@
 pub mod Lines
 pub mod HexLines
+pub mod Words
+pub mod Values
+pub mod Forms
