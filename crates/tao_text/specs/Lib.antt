@@ -3,3 +3,4 @@ pub mod HexLines
 pub mod Words
 pub mod Values
 pub mod Forms
+pub mod Scripts

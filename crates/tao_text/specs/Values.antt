@@ -28,3 +28,8 @@ hex_of word = or_no_hex (decode_of word)
 abbrev pub Gives : {X Y : Type 0} → (X → Y) → Result X TextKind → Result Y TextKind → Type 0
 Gives view (Ok x) read = read ≡ Ok (view x)
 Gives view (Err kind) read = (kind ≡ Memory) ⊎ (read ≡ Err kind)
+
+-- the same of a function that takes no memory
+abbrev pub Reads : {X Y : Type 0} → (X → Y) → Result X TextKind → Result Y TextKind → Type 0
+Reads view (Ok x) read = read ≡ Ok (view x)
+Reads view (Err kind) read = read ≡ Err kind
