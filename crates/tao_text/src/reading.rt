@@ -154,12 +154,7 @@ fn add_line(
 }
 
 #[tactic(auto, unfolding(crate::specs::Scripts::load_with))]
-fn add_load(
-    alloc: Global,
-    params: &Params,
-    body: &mut Body,
-    rest: &[u8],
-) -> Result<(), TextKind>
+fn add_load(alloc: Global, params: &Params, body: &mut Body, rest: &[u8]) -> Result<(), TextKind>
     ensures { Gives (λ _. body.new) result (load_with params.now body.old (words rest.now)) }
 {
     let entry = load(alloc, rest)?;
