@@ -4,3 +4,6 @@ pub mod Numbers
 pub mod Tapes
 pub mod Plain
 pub mod Bodies
+pub mod HexCase
+pub mod ValueLaws
+pub mod FormLaws

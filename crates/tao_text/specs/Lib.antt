@@ -4,3 +4,4 @@ pub mod Words
 pub mod Values
 pub mod Forms
 pub mod Scripts
+pub mod Spelling
