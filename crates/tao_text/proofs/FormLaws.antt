@@ -25,11 +25,11 @@ use Rattle.tao_text.specs.Values.{number_of, hex_of}
 use Rattle.tao_text.proofs.ValueLaws.{number_is, number_reads, hex_is, hex_reads}
 
 -- what a step shows that gave a value
-bound : {A B P : Type 0} (r : Result A TextKind) (f : A → Result B TextKind) (y : B) → (r >>= f) ≡ Ok y → ((x : A) → r ≡ Ok x → f x ≡ Ok y → P) → P
+pub bound : {A B P : Type 0} (r : Result A TextKind) (f : A → Result B TextKind) (y : B) → (r >>= f) ≡ Ok y → ((x : A) → r ≡ Ok x → f x ≡ Ok y → P) → P
 bound (Ok x) f y h goes = goes x refl h
 bound (Err kind) f y h goes = cc h
 
-same_ok : {A : Type 0} (x y : A) → ◌≡◌ {A = Result A TextKind} (Ok x) (Ok y) → x ≡ y
+pub same_ok : {A : Type 0} (x y : A) → ◌≡◌ {A = Result A TextKind} (Ok x) (Ok y) → x ≡ y
 same_ok x y h = cc h
 
 -- parameters
@@ -74,7 +74,7 @@ shape_found l z b n k s h =
       count_high = ltb-false (z * 2 ^ l) n n_in.1;
       period_low = ltb-false k 1 k_in.0;
       period_high = ltb-false 64 k k_in.1;
-      tree = ltb-false (2 ^ 29) (tree_len (shape l z b n k One)) tree.0
+      tree = ltb-false (2 ^ 29) (tree_len (shape l z b n k One)) tree.0;
     }
     in
     (same, subst IsShape (sym same) is)
@@ -101,9 +101,10 @@ unfolding tree_line
 tree_is (lw ∷ zw ∷ bw ∷ nw ∷ kw ∷ []) s h =
     bound (number_of lw) _ s h (λ l lh h. bound (number_of zw) _ s h (λ z zh h. bound (number_of bw) _ s h (λ b bh h.
     bound (number_of nw) _ s h (λ n nh h. bound (number_of kw) _ s h (λ k kh h.
-      let found = shape_found l z b n k s (ranged (shape_of l z b n k) s h) in
-      (rw ((number_is lw l lh).0, (number_is zw z zh).0, (number_is bw b bh).0, (number_is nw n nh).0, (number_is kw k kh).0) (ap tree_words (sym found.0)),
-       (found.1, ap (λ (t : Shape). t.form) found.0)))))))
+    let found = shape_found l z b n k s (ranged (shape_of l z b n k) s h) in (
+      rw ((number_is lw l lh).0, (number_is zw z zh).0, (number_is bw b bh).0, (number_is nw n nh).0, (number_is kw k kh).0) (ap tree_words (sym found.0)),
+      (found.1, ap (λ (t : Shape). t.form) found.0),
+    ))))))
 tree_is ws s h = absurd cc
 
 pub tree_reads : (ws : List (List ℕ)) (s : Shape) → ws ≡ tree_words s → IsPlainShape s → tree_line ws ≡ Ok s
@@ -125,9 +126,9 @@ unfolding numbers_of
 numbers_are [] ns h = rw (sym (same_ok [] ns h)) (refl, tt)
 numbers_are (word ∷ words) ns h =
     bound (number_of word) _ ns h (λ first fh h. bound (numbers_of words) _ ns h (λ others oh h.
-      let is = number_is word first fh in
-      let are = numbers_are words others oh in
-      subst (λ (all : List ℕ). ((word ∷ words) ≡ map decimal all) × AllByRecursion (λ n. n < 2 ^ 32) all) (same_ok (first ∷ others) ns h) (rw (is.0, are.0) refl, (is.1, are.1))))
+    let is = number_is word first fh in
+    let are = numbers_are words others oh in
+    subst (λ (all : List ℕ). ((word ∷ words) ≡ map decimal all) × AllByRecursion (λ n. n < 2 ^ 32) all) (same_ok (first ∷ others) ns h) (rw (is.0, are.0) refl, (is.1, are.1))))
 
 numbers_read : (ns : List ℕ) → AllByRecursion (λ n. n < 2 ^ 32) ns → numbers_of (map decimal ns) ≡ Ok ns
 unfolding numbers_of
@@ -156,9 +157,9 @@ pub load_is : (ws : List (List ℕ)) (entry : Entry) → load_line ws ≡ Ok ent
 unfolding load_line
 load_is (id ∷ hex ∷ []) entry h =
     bound (number_of id) _ entry h (λ number nh h. bound (hex_of hex) _ entry h (λ value vh h.
-      let is = number_is id number nh in
-      let made : Entry = record { id = number; value = value } in
-      subst (λ (e : Entry). SpellsLoad (id ∷ hex ∷ []) e) (same_ok made entry h) (hex, rw is.0 refl, is.1, hex_is hex value vh)))
+    let is = number_is id number nh in
+    let made : Entry = record { id = number; value = value } in
+    subst (λ (e : Entry). SpellsLoad (id ∷ hex ∷ []) e) (same_ok made entry h) (hex, rw is.0 refl, is.1, hex_is hex value vh)))
 load_is ws entry h = absurd cc
 
 pub load_reads : (ws : List (List ℕ)) (entry : Entry) → SpellsLoad ws entry → load_line ws ≡ Ok entry
@@ -175,18 +176,18 @@ read_is : (cw iw : List ℕ) (more : List (List ℕ)) (client : ℕ) (op : Op) �
 unfolding read_words
 read_is cw iw [] client op h =
     bound (number_of cw) _ (client, op) h (λ c ch h. bound (number_of iw) _ (client, op) h (λ i ih h.
-      let c_is = number_is cw c ch in
-      let i_is = number_is iw i ih in
-      subst (λ (x : ℕ × Op). SpellsCall (cw ∷ codes "read" ∷ iw ∷ []) x.0 x.1) (same_ok (c, Read i) (client, op) h) (rw (c_is.0, i_is.0) refl, c_is.1, i_is.1)))
+    let c_is = number_is cw c ch in
+    let i_is = number_is iw i ih in
+    subst (λ (x : ℕ × Op). SpellsCall (cw ∷ codes "read" ∷ iw ∷ []) x.0 x.1) (same_ok (c, Read i) (client, op) h) (rw (c_is.0, i_is.0) refl, c_is.1, i_is.1)))
 read_is cw iw (word ∷ more) client op h = cc h
 
 write_is : (cw iw : List ℕ) (more : List (List ℕ)) (client : ℕ) (op : Op) → write_words cw iw more ≡ Ok (client, op) → SpellsCall (cw ∷ codes "write" ∷ iw ∷ more) client op
 unfolding write_words
 write_is cw iw (hex ∷ []) client op h =
     bound (number_of cw) _ (client, op) h (λ c ch h. bound (number_of iw) _ (client, op) h (λ i ih h. bound (hex_of hex) _ (client, op) h (λ v vh h.
-      let c_is = number_is cw c ch in
-      let i_is = number_is iw i ih in
-      subst (λ (x : ℕ × Op). SpellsCall (cw ∷ codes "write" ∷ iw ∷ hex ∷ []) x.0 x.1) (same_ok (c, Write i v) (client, op) h) (hex, rw (c_is.0, i_is.0) refl, c_is.1, i_is.1, hex_is hex v vh))))
+    let c_is = number_is cw c ch in
+    let i_is = number_is iw i ih in
+    subst (λ (x : ℕ × Op). SpellsCall (cw ∷ codes "write" ∷ iw ∷ hex ∷ []) x.0 x.1) (same_ok (c, Write i v) (client, op) h) (hex, rw (c_is.0, i_is.0) refl, c_is.1, i_is.1, hex_is hex v vh))))
 write_is cw iw more client op h = absurd cc
 
 by_name : (name : List ℕ) (cw iw : List ℕ) (more : List (List ℕ)) (client : ℕ) (op : Op)
@@ -197,13 +198,13 @@ by_name name cw iw more client op h =
           let read : read_words cw iw more ≡ Ok (client, op) = rw named at h in
           subst (λ (n : List ℕ). SpellsCall (cw ∷ n ∷ iw ∷ more) client op) (sym (is_name name (codes "read") named)) (read_is cw iw more client op read)
       | inr other ↦ elim (cases_Bool (bytes_eq name (codes "write"))) [
-          | inl named ↦
-              let write : write_words cw iw more ≡ Ok (client, op) = rw (other, named) at h in
-              subst (λ (n : List ℕ). SpellsCall (cw ∷ n ∷ iw ∷ more) client op) (sym (is_name name (codes "write") named)) (write_is cw iw more client op write)
-          | inr neither ↦
-              let none : Err Word ≡ Ok (client, op) = rw (other, neither) at h in
-              cc none
-        ]
+        | inl named ↦
+            let write : write_words cw iw more ≡ Ok (client, op) = rw (other, named) at h in
+            subst (λ (n : List ℕ). SpellsCall (cw ∷ n ∷ iw ∷ more) client op) (sym (is_name name (codes "write") named)) (write_is cw iw more client op write)
+        | inr neither ↦
+            let none : Err Word ≡ Ok (client, op) = rw (other, neither) at h in
+            cc none
+      ]
     ]
 
 pub call_is : (ws : List (List ℕ)) (client : ℕ) (op : Op) → do_line ws ≡ Ok (client, op) → SpellsCall ws client op

@@ -49,9 +49,9 @@ lower_value c d h =
     elim (cases_lt c 65) [
       | inl below ↦ subst (λ (x : ℕ). hex_digit_value x ≡ Some d) ((lowercase_is c).1 below) h
       | inr from ↦ elim (cases_lt 90 c) [
-          | inl above ↦ subst (λ (x : ℕ). hex_digit_value x ≡ Some d) ((lowercase_is c).2 above) h
-          | inr to ↦ raised c d from to (subst (λ (x : ℕ). hex_digit_value x ≡ Some d) ((lowercase_is c).0 (from, to)) h)
-        ]
+        | inl above ↦ subst (λ (x : ℕ). hex_digit_value x ≡ Some d) ((lowercase_is c).2 above) h
+        | inr to ↦ raised c d from to (subst (λ (x : ℕ). hex_digit_value x ≡ Some d) ((lowercase_is c).0 (from, to)) h)
+      ]
     ]
 
 digit_of_lower : (c d : ℕ) → d < 16 → to_ascii_lowercase c ≡ slice_index lower_digits d → hex_digit_value c ≡ Some d

@@ -7,3 +7,7 @@ pub mod Bodies
 pub mod HexCase
 pub mod ValueLaws
 pub mod FormLaws
+pub mod WordLaws
+pub mod FitLaws
+pub mod SpelledWords
+pub mod BodyLaws

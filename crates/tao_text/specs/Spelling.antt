@@ -1,5 +1,6 @@
 -- How scripts are spelled, line by line. Hex may be in digits of either case.
-use Rattle.std.specs.Prelude.{◌≡◌, ℕ, ◌^◌, ◌<◌, ◌≤◌, ◌++◌, List, [], ◌∷◌, length, map, codes, decimal, All}
+use Rattle.std.specs.Prelude.{◌≡◌, ◌≢◌, ℕ, ◌^◌, ◌<◌, ◌≤◌, ◌++◌, List, [], ◌∷◌, length, map, slice_index, codes, decimal, All}
+use Rattle.std.specs.List.{join_with_byte}
 use Rattle.std.specs.Str.{str_to_ascii_lowercase}
 use Rattle.hex.specs.Hex.{IsBytes, encode_lower}
 use Rattle.tao_base.specs.Limits.{Shape, IsShape}
@@ -37,3 +38,18 @@ abbrev pub SpellsCall : List (List ℕ) → ℕ → Op → Type 0
 SpellsCall words client (Read id) = (words ≡ decimal client ∷ codes "read" ∷ decimal id ∷ []) × (client < 2 ^ 32) × (id < 2 ^ 32)
 SpellsCall words client (Write id value) = (hex : List ℕ) × (words ≡ decimal client ∷ codes "write" ∷ decimal id ∷ hex ∷ []) × (client < 2 ^ 32) × (id < 2 ^ 32) × IsHex hex value
 SpellsCall words client Pad = ⊥
+
+-- a word: printable bytes other than a space
+pub record IsWord (word : List ℕ) : Type 0 where
+  pub some : 0 < length word
+  pub bytes : All (λ b. (33 ≤ b) × (b ≤ 126)) word
+
+-- words with one space between each two
+abbrev pub spelled : List (List ℕ) → List ℕ
+spelled ws = join_with_byte 32 ws
+
+-- the words of a line that is no comment
+pub record IsLine (ws : List (List ℕ)) : Type 0 where
+  pub some : 0 < length ws
+  pub each : All IsWord ws
+  pub no_comment : slice_index (spelled ws) 0 ≢ 35
