@@ -1,0 +1,8 @@
+pub mod Lines
+pub mod HexLines
+pub mod Words
+pub mod Values
+pub mod Forms
+pub mod Scripts
+pub mod Spelling
+pub mod WholeScripts

@@ -1,0 +1,78 @@
+//! Why a text could not be read.
+
+use std::error::Error;
+use std::fmt;
+use tao_base::NoMemory;
+
+/// What is wrong with a line. On the first line with a fault, the kind of the smallest number counts.
+#[derive(Clone, Copy, Debug, PartialEq, Eq)]
+pub enum TextKind {
+    /// A byte is neither printable ASCII nor a space.
+    NotText = 1,
+    /// The first word or the operation's word is unknown, or there are too few words or too many.
+    Word = 2,
+    /// A number is not written in decimal digits without a leading zero, or is too large.
+    Number = 3,
+    /// A value is not an even number of hexadecimal digits.
+    Hex = 4,
+    /// A value has not as many bytes as a block, or a key not 32.
+    Length = 5,
+    /// A number is out of its range, or the parameters are past a limit.
+    Range = 6,
+    /// The line may not stand at its place or in this text.
+    Order = 7,
+    /// The tape has too few words.
+    TapeShort = 8,
+    /// The text has more than 2^24 bytes.
+    TooLong = 9,
+    /// Memory ran out.
+    Memory = 10,
+    /// The text is no script of the forms that are read by now.
+    Unbuilt = 11,
+}
+
+impl fmt::Display for TextKind {
+    fn fmt<W: fmt::Write>(&self, f: &mut fmt::Formatter<W>) -> fmt::Result {
+        match self {
+            TextKind::NotText => write!(f, "NotText"),
+            TextKind::Word => write!(f, "Word"),
+            TextKind::Number => write!(f, "Number"),
+            TextKind::Hex => write!(f, "Hex"),
+            TextKind::Length => write!(f, "Length"),
+            TextKind::Range => write!(f, "Range"),
+            TextKind::Order => write!(f, "Order"),
+            TextKind::TapeShort => write!(f, "TapeShort"),
+            TextKind::TooLong => write!(f, "TooLong"),
+            TextKind::Memory => write!(f, "Memory"),
+            TextKind::Unbuilt => write!(f, "Unbuilt"),
+        }
+    }
+}
+
+impl Error for TextKind {}
+
+impl From<NoMemory> for TextKind {
+    ghost use Rattle.std.specs.Prelude.{◌≡◌};
+    ghost use Rattle.tao_text.specs.declared.faults.TextKind.TheVariants.{Memory};
+
+    ghost from_gives = { λ _ kind. kind ≡ Memory };
+
+    fn from(_: NoMemory) -> TextKind {
+        TextKind::Memory
+    }
+}
+
+/// The first fault of a text: its line, counted from 1, and what is wrong there. Line 0 is the text as a whole.
+#[derive(Clone, Copy, Debug, PartialEq, Eq)]
+pub struct TextFault {
+    pub line: u32,
+    pub kind: TextKind,
+}
+
+impl fmt::Display for TextFault {
+    fn fmt<W: fmt::Write>(&self, f: &mut fmt::Formatter<W>) -> fmt::Result {
+        write!(f, "line {}: {}", self.line, self.kind)
+    }
+}
+
+impl Error for TextFault {}

@@ -1,0 +1,41 @@
+//! What a script says.
+
+use tao_base::{Entries, Items, Numbers, Op, Params};
+
+/// A store and what is done with it: its parameters, the key of its tape, the tape's words where the text gives them in place of the
+/// key's, the first values of blocks by rising ids, and the steps.
+#[derive(Debug, Drop)]
+pub struct Script {
+    pub params: Params,
+    pub key: [u8; 32],
+    pub tape: Option<Numbers>,
+    pub loads: Entries,
+    pub steps: Steps,
+}
+
+/// One step of a script, with the number of its line, counted from 1.
+#[derive(Debug, Drop)]
+pub struct Step {
+    pub line: u32,
+    pub what: What,
+}
+
+pub type Steps = Items<Step>;
+
+/// What happens in one step.
+#[derive(Debug, Drop)]
+pub enum What {
+    /// An arrival of this client's operation, and all that follows of it: its reads, its path taken in, and for a write-back that it
+    /// issues all puts and the acknowledgement.
+    Do(u32, Op),
+    /// An arrival of this client's operation.
+    A(u32, Op),
+    /// The server reads for the fetch of this number all buckets not yet read, root first, or the one at a depth.
+    Read(u64, Option<u32>),
+    /// The whole path of this fetch reaches the proxy.
+    Done(u64),
+    /// The server gets all buckets not yet put of the write-back of this version, by rising nodes, or that of a node.
+    Put(u32, Option<u32>),
+    /// The acknowledgement of this write-back reaches the proxy.
+    Ack(u32),
+}

@@ -1,0 +1,54 @@
+//! Numbers and bytes as words spell them.
+ghost use Rattle.std.specs.Prelude.{◌≡◌, ◌^◌};
+ghost use Rattle.tao_text.specs.Values.{Gives, hex_of, number_below, number_of};
+
+use crate::faults::TextKind;
+use hex::FromHexError;
+use std::alloc::Global;
+use tao_base::Block;
+
+#[tactic(auto, using(crate::proofs::Numbers::number_small, crate::proofs::Numbers::number_large, crate::proofs::Numbers::number_none))]
+/// The Number that a word spells.
+pub(crate) fn number(word: &[u8]) -> Result<u32, TextKind>
+    ensures { result ≡ number_of word.now }
+{
+    match wide_number(word) {
+        Some(number) => match u32::try_from(number) {
+            Ok(number) => Ok(number),
+            Err(_) => Err(TextKind::Number),
+        },
+        None => Err(TextKind::Number),
+    }
+}
+
+#[tactic(auto, using(crate::proofs::Numbers::none_empty, crate::proofs::Numbers::none_plus, crate::proofs::Numbers::none_zeros, crate::proofs::Numbers::zero_alone, crate::proofs::Numbers::none_no_text, crate::proofs::Numbers::parsed))]
+/// The number of up to 64 bits that a word spells.
+pub(crate) fn wide_number(word: &[u8]) -> Option<u64>
+    ensures { result ≡ number_below (2 ^ 64) word.now }
+{
+    if word.is_empty() {
+        return None;
+    }
+    if word[0] == b'+' {
+        return None;
+    }
+    if word[0] == b'0' {
+        return if word.len() == 1 { Some(0) } else { None };
+    }
+    match str::from_utf8(word) {
+        Ok(digits) => digits.parse::<u64>().ok(),
+        Err(_) => None,
+    }
+}
+
+#[tactic(auto, unfolding(crate::specs::Values::hex_of))]
+/// The bytes whose hex a word is.
+pub(crate) fn hex_bytes(alloc: Global, word: &[u8]) -> Result<Block, TextKind>
+    ensures { Gives (λ bytes. bytes) result (hex_of word.now) }
+{
+    match hex::decode(alloc, word) {
+        Ok(bytes) => Ok(Block::from_vec(bytes)),
+        Err(FromHexError::OutOfMemory) => Err(TextKind::Memory),
+        Err(_) => Err(TextKind::Hex),
+    }
+}
