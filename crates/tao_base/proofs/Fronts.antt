@@ -1,6 +1,7 @@
 -- The front of a list that was written.
-use Rattle.std.proofs.Common.{◌<◌, ◌-◌, min, ◌≡◌, ℕ, ◌≤◌, ◌+◌, List, [], ◌++◌, length, take, drop, refl, sym, ap, ◌∙◌, arith}
-use Rattle.std.proofs.lemmas.List.{length-take-le, length-drop, take-append-le, take-take, take-append-drop, drop-drop, drop_all}
+use Rattle.std.proofs.Common.{◌<◌, ◌-◌, min, ◌≡◌, ℕ, ◌≤◌, ◌+◌, List, [], ◌++◌, length, take, drop, append-nil, refl, sym, ap, ◌∙◌, arith}
+use Rattle.std.proofs.lemmas.List.{length-take-le, length-drop, take-append-le, take-take, take-append-drop, drop-drop, drop_all, take_all}
+use Rattle.tao_base.specs.Items.{with_front}
 
 -- what was copied to the front is at the front
 pub take_copied : {X : Type 0} (n : ℕ) (xs room : List X) → n ≤ length xs → take n (take n xs ++ drop n room) ≡ take n xs
@@ -24,3 +25,8 @@ gives at n xs ys room new left same view count len copied = (
   sym view ∙ left_after at n xs ∙ ap (λ front. front ++ drop (at + n) xs) (sym (copied ∙ ap (λ bytes. take n (drop at bytes)) same)),
   λ none some. all_left at n (length room) xs (count ∙ ap (λ bytes. min (length (drop at bytes)) (length room)) same) none (omega arith),
 )
+
+-- a slice that was lent and written whole is the list
+pub with_front_all : {X : Type 0} (old front : List X) → length front ≡ length old → with_front old front ≡ front
+with_front_all old front same =
+    ap (λ rest. take (length old) (front ++ rest)) (drop_all (length front) old (omega arith)) ∙ ap (take (length old)) (append-nil front) ∙ take_all (length old) front (omega arith)

@@ -1,5 +1,4 @@
 pub mod Lines
-pub mod HexLines
 pub mod Words
 pub mod Values
 pub mod Forms

@@ -1,8 +1,8 @@
 //! Lines of a text, appended to an image: a word, then words, numbers and blocks, each after one space, and byte 10.
 ghost use Rattle.std.specs.Prelude.{◌≡◌, ◌<◌, [], ◌∷◌, ◌++◌, length, flat_map, OnOk, OnErr};
 ghost use Rattle.hex.specs.Hex.{encode_lower};
-ghost use Rattle.tao_text.specs.Lines.{Extends, spaced, words_line};
-ghost use Rattle.tao_text.specs.HexLines.{hex_line};
+ghost use Rattle.tao_base.specs.Lines.{spaced, spaced_hex, words_line, hex_line};
+ghost use Rattle.tao_text.specs.Lines.{Extends};
 
 use itoa::Buffer;
 use tao_base::{Block, Image, NoMemory};
@@ -37,7 +37,7 @@ pub fn line_hex(out: &mut Image, word: &str, numbers: &[u64], value: &Block) -> 
     }
 }
 
-#[tactic(auto, unfolding(crate::specs::Lines::words_line))]
+#[tactic(auto, unfolding(tao_base::specs::Lines::words_line))]
 fn words_and_end(out: &mut Image, word: &str, numbers: &[u64]) -> Result<(), NoMemory>
     ensures ok { OnOk result (out.new ≡ out.old ++ words_line word.now numbers.now) }
     ensures err { OnErr result (Extends out.old out.new) }
@@ -47,7 +47,7 @@ fn words_and_end(out: &mut Image, word: &str, numbers: &[u64]) -> Result<(), NoM
     end_line(out)
 }
 
-#[tactic(auto, unfolding(crate::specs::HexLines::hex_line))]
+#[tactic(auto, unfolding(tao_base::specs::Lines::hex_line))]
 fn hex_and_end(out: &mut Image, word: &str, numbers: &[u64], value: &Block) -> Result<(), NoMemory>
     ensures ok { OnOk result (out.new ≡ out.old ++ hex_line word.now numbers.now value.now) }
     ensures err { OnErr result (Extends out.old out.new) }
@@ -76,7 +76,7 @@ pub fn push_word(out: &mut Image, word: &str) -> Result<(), NoMemory>
     out.extend_from_slice(word.as_bytes())
 }
 
-#[tactic(auto, unfolding(crate::specs::Lines::spaced))]
+#[tactic(auto, unfolding(tao_base::specs::Lines::spaced))]
 /// Appends a number, after a space.
 pub fn push_number(out: &mut Image, number: u64) -> Result<(), NoMemory>
     ensures ok { OnOk result (out.new ≡ out.old ++ spaced number) }
@@ -98,10 +98,10 @@ pub fn push_numbers(out: &mut Image, numbers: &[u64]) -> Result<(), NoMemory>
     Ok(())
 }
 
-#[tactic(auto, using(crate::proofs::Appended::extends_through, crate::proofs::Appended::hex_goes_on))]
+#[tactic(auto, using(crate::proofs::Appended::extends_through, crate::proofs::Appended::hex_goes_on), unfolding(tao_base::specs::Lines::spaced_hex))]
 /// Appends bytes in lower-case hex, after a space.
 pub fn push_hex(out: &mut Image, bytes: &[u8]) -> Result<(), NoMemory>
-    ensures ok { OnOk result (out.new ≡ out.old ++ 32 ∷ encode_lower bytes.now) }
+    ensures ok { OnOk result (out.new ≡ out.old ++ spaced_hex bytes.now) }
     ensures err { OnErr result (Extends out.old out.new) }
 {
     out.push(b' ')?;

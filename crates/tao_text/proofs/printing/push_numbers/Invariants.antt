@@ -1,5 +1,5 @@
 use Rattle.std.proofs.Common.{◌≡◌, ◌++◌, take, flat_map}
-use Rattle.tao_text.specs.Lines.{spaced}
+use Rattle.tao_base.specs.Lines.{spaced}
 use Rattle.tao_text.proofs.printing.push_numbers.Given as goal
 
 abbrev pub invariant-loop-number : goal.invariant-loop-number

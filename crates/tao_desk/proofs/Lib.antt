@@ -1,0 +1,4 @@
+pub mod DeskStep
+pub mod PathBuckets
+pub mod PathList
+pub mod QuietStep

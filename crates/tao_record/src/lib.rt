@@ -1,0 +1,10 @@
+//! The record of a session: an append-only list of events, with room that is made beforehand.
+#![tactic(auto)]
+
+mod copies;
+mod record;
+mod rooms;
+#[cfg(test)]
+mod tests;
+
+pub use record::Record;
