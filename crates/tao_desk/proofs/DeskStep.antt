@@ -26,7 +26,7 @@ use Rattle.tao_model.specs.OneMore.{AfterArrive}
 use Rattle.tao_model.proofs.Stays.{newest_first, place_stays}
 use Rattle.tao_model.proofs.Places.{next_below}
 use Rattle.tao_model.proofs.OneMoreEvent.{one_more_arrive, own_word}
-use Rattle.tao_desk.specs.Whole.{IsSound, empty_bucket, empty_load}
+use Rattle.tao_desk.specs.Whole.{DeskState, arrivals_of, words_left, IsSound, empty_bucket, empty_load}
 use Rattle.tao_desk.specs.Quiet.{IsQuiet, AreEmpty, four, AreStamped, Stores, MayPlay, IsDesk, bucket_at, placed, NamesBelow}
 use Rattle.tao_desk.proofs.QuietStep.{quiet_step, none_below, all_between, all_nodes, nodes_map}
 use Rattle.tao_desk.proofs.PathList.{path_climbs}
@@ -314,3 +314,30 @@ stored_nodes p h h1 tape array words server sliced room taken path' stored n lea
     let len = d.server_len in
     subst (All (λ bucket. (1 ≤ bucket.node) × (bucket.node ≤ length server))) (sym stores_is)
     (subst (λ k. All (λ bucket. (1 ≤ bucket.node) × (bucket.node ≤ k)) path') (sym len) within)
+
+-- ---- the words of the tape that are left
+
+abbrev pub state_of : History → List ℕ → DeskState
+state_of h tape = record { history = h; tape = tape }
+
+pub word_there : (d : DeskState) (h : History) (tape slice : List ℕ) (p : Shape) (k n : ℕ) → state_of h tape ≡ d → 0 < words_left d → p ≡ h.opening.shape → k ≡ p.n
+    → arrivals_of h ≡ n → slice ≡ tape → k + n < length slice
+unfolding words_left
+word_there d h tape slice p k n view left shape is arrived same =
+    let at : 0 < length tape - (h.opening.shape.n + arrivals_of h) = subst (λ s. 0 < length s.tape - (s.history.opening.shape.n + arrivals_of s.history)) (sym view) left in
+    let whole : k ≡ h.opening.shape.n = is ∙ ap (λ s. s.n) shape in
+    let len : length slice ≡ length tape = ap length same in
+    omega arith
+
+pub word_taken : (d : DeskState) (h h' : History) (tape : List ℕ) (n : ℕ) → state_of h tape ≡ d → 0 < words_left d → arrivals_of h ≡ n → h'.opening ≡ h.opening → arrivals_of h' ≡ n + 1
+    → words_left (state_of h' tape) + 1 ≡ words_left d
+unfolding words_left
+word_taken d h h' tape n view left arrived opening arrived' =
+    let at : 0 < length tape - (h.opening.shape.n + arrivals_of h) = subst (λ s. 0 < length s.tape - (s.history.opening.shape.n + arrivals_of s.history)) (sym view) left in
+    let blocks : h'.opening.shape.n ≡ h.opening.shape.n = ap (λ o. o.shape.n) opening in
+    let now : length tape - (h'.opening.shape.n + arrivals_of h') + 1 ≡ length tape - (h.opening.shape.n + arrivals_of h) = omega arith in
+    now ∙ ap (λ s. length s.tape - (s.history.opening.shape.n + arrivals_of s.history)) view
+
+pub words_at_start : (s : Shape) (words : List ℕ) (h : History) → h.opening.shape ≡ s → arrivals_of h ≡ 0 → s.n ≤ length words → words_left (state_of h words) + s.n ≡ length words
+unfolding words_left
+words_at_start s words h shape none enough = let blocks : h.opening.shape.n ≡ s.n = ap (λ x. x.n) shape in omega arith

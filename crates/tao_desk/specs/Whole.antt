@@ -39,6 +39,10 @@ started s words blocks = record {
 abbrev pub arrivals_of : History → ℕ
 arrivals_of h = arrived (reverse h.events)
 
+-- how many words of the tape are left for arrivals
+unfoldable pub words_left : DeskState → ℕ
+words_left d = length d.tape - (d.history.opening.shape.n + arrivals_of d.history)
+
 -- the record goes on lawfully, owes no write-back, and what was taken in is what was written
 pub record IsSound (h : History) : Type 0 where
   pub follows : FollowsLawfully h.opening (reverse h.events)

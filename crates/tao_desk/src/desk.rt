@@ -50,7 +50,7 @@ impl Model for Desk {
 }
 
 impl Desk {
-    ghost use Rattle.tao_desk.specs.Whole.{started, arrivals_of, IsSound, PlaysOne, refusal};
+    ghost use Rattle.tao_desk.specs.Whole.{started, arrivals_of, words_left, IsSound, PlaysOne, refusal};
 
     /// A desk whose record is the opening: each block has its word of the tape and its value.
     pub fn start(alloc: Global, p: Params, words: Numbers, blocks: Blocks) -> Result<Desk, NoMemory>
@@ -60,6 +60,7 @@ impl Desk {
         requires values { All (λ value. length value ≡ p.b) blocks }
         ensures state { IfOk result (λ d. d ≡ started p words blocks) }
         ensures sound { IfOk result (λ d. IsSound d.history) }
+        ensures left { IfOk result (λ d. words_left d + p.n ≡ length words) }
     {
         let n = p.n() as usize;
         let own = Numbers::from_slice(alloc, &words.as_slice()[..n])?;
@@ -85,7 +86,7 @@ impl Desk {
     /// Plays one operation: it arrives, is fetched, is written back and is acknowledged. The reply has the value before it.
     pub fn do_one(&mut self, client: u32, op: Op) -> Result<Reply, ArriveFault>
         requires client { client < 64 }
-        requires word { self.old.history.opening.shape.n + arrivals_of self.old.history < length self.old.tape }
+        requires word { 0 < words_left self.old }
         ensures refused { IfErr result (λ e. (refusal self.old.history op ≡ Some e) ⊎ ((e ≡ Memory) × (refusal self.old.history op ≡ None))) }
         ensures taken { IfOk result (λ _. refusal self.old.history op ≡ None) }
         ensures err { OnErr result (self.new ≡ self.old) }
@@ -93,6 +94,7 @@ impl Desk {
         ensures arrival { IfOk result (λ r. (r.arrival ≡ arrivals_of self.old.history) × (r.client ≡ client)) }
         ensures reply { IfOk result (λ r. r.value ≡ array_reply (array_now self.old.history.opening (reverse self.old.history.events)) op) }
         ensures tape { self.new.tape ≡ self.old.tape }
+        ensures left { IfOk result (λ _. words_left self.new + 1 ≡ words_left self.old) }
         ensures sound { IsSound self.new.history }
     {
         match self.refusal_of(&op) {

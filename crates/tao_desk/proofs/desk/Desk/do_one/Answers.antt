@@ -2,7 +2,7 @@ use Rattle.std.proofs.Common.{◌≡◌, ◌∙◌, ◌<◌, sym, ap, subst}
 use Rattle.tao_base.specs.Limits.{session_limit}
 use Rattle.tao_model.specs.Lawful.{IsInRange}
 use Rattle.tao_desk.specs.Whole.{DeskState, arrivals_of}
-use Rattle.tao_desk.proofs.DeskStep.{server_empty, gathered_ready, stored_nodes, do_one_step, desk_sound}
+use Rattle.tao_desk.proofs.DeskStep.{server_empty, gathered_ready, stored_nodes, do_one_step, desk_sound, word_there, word_taken}
 use Rattle.tao_desk.proofs.desk.Desk.do_one.Goals as goal
 
 pub gather_to-requires-clause-server_empty : goal.gather_to-requires-clause-server_empty
@@ -48,3 +48,13 @@ invariant_of-self-2 c =
 
 pub returns-clause-sound : goal.returns-clause-sound
 returns-clause-sound c = desk_sound _ _ _ _ _ _ _ (invariant_of-self-2 c).1
+
+-- a word of the tape is left for this arrival, and then is used
+pub bounds-as_slice-n : goal.bounds-as_slice-n
+bounds-as_slice-n c =
+    word_there _ _ _ _ _ _ _ c.self.view_is c.requires.word c.self.invariant.0 c.n.ensures.value ((c.self.invariant.1).quiet.arrived) c.as_slice-2.ensures
+
+pub returns-clause-left : goal.returns-clause-left
+returns-clause-left c =
+    word_taken _ _ _ _ _ c.self.view_is c.requires.word ((c.self.invariant.1).quiet.arrived) (c.add_four.ensures.opening ∙ ap (λ h. h.opening) c.make_room.ensures.history)
+        ((invariant_of-self-2 c).1.quiet.arrived)

@@ -1,6 +1,6 @@
 use Rattle.std.proofs.Common.{◌+◌, ◌∙◌, sym, ap, ap₂, take}
-use Rattle.tao_desk.specs.Whole.{empty_load}
-use Rattle.tao_desk.proofs.DeskStep.{desk_start, desk_sound}
+use Rattle.tao_desk.specs.Whole.{empty_load, arrivals_of}
+use Rattle.tao_desk.proofs.DeskStep.{desk_start, desk_sound, words_at_start}
 use Rattle.tao_desk.proofs.desk.Desk.start.Goals as goal
 
 pub invariant_of-result : goal.invariant_of-result
@@ -16,3 +16,8 @@ invariant_of-result c =
 
 pub returns-clause-sound : goal.returns-clause-sound
 returns-clause-sound c = desk_sound _ _ _ _ _ _ _ (invariant_of-result c).1
+
+pub returns-clause-left : goal.returns-clause-left
+returns-clause-left c =
+    let opened = c.in_ok-session.ensures in
+    words_at_start _ _ _ (ap (λ r. r.history.opening.shape) opened) (ap (λ r. arrivals_of r.history) opened) c.requires.words
