@@ -1,9 +1,12 @@
 pub mod DonesInOrder
+pub mod EventPlaces
 pub mod FallingPaths
 pub mod FirstCopies
 pub mod GreatestNumbers
 pub mod Growth
 pub mod LastReal
+pub mod LawfulTests
+pub mod LawfulToWhole
 pub mod NewestWrites
 pub mod NodeByNode
 pub mod OneEviction
@@ -17,3 +20,5 @@ pub mod PlainArrays
 pub mod RealArrivals
 pub mod RisingEntries
 pub mod Stays
+pub mod WholeToLawful
+pub mod WorkedRecords

@@ -89,7 +89,7 @@ pub on_newest : (es : List Event) (client : ℕ) (op : Op) (word block : ℕ) �
 on_newest es client op word block = rw (eq-eqb (arrived es) (arrived es) refl) refl
 
 -- a record with an arrival in it, looked back on
-looked_back : (before after : List Event) (e : Event) → reverse (before ++ e ∷ after) ≡ reverse after ++ e ∷ reverse before
+pub looked_back : (before after : List Event) (e : Event) → reverse (before ++ e ∷ after) ≡ reverse after ++ e ∷ reverse before
 looked_back before after e =
     reverse-append before (e ∷ after) ∙ ap (λ l. l ++ reverse before) (reverse-append (e ∷ []) after) ∙ append_assoc (reverse after) (e ∷ []) (reverse before)
 

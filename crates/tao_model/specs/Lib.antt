@@ -14,4 +14,6 @@ pub mod Residence
 pub mod Stays
 pub mod Trace
 pub mod Transcript
+pub mod WholeRecords
 pub mod Worked
+pub mod WorkedLawful

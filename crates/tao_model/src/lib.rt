@@ -9,6 +9,7 @@ mod one_more;
 mod placement;
 mod stability;
 mod trace;
+mod whole_records;
 mod worked;
 
 pub use copies::{
@@ -33,7 +34,8 @@ pub use placement::{
 };
 pub use stability::{arrivals_stay, released_grows};
 pub use trace::Request;
+pub use whole_records::lawful_means;
 pub use worked::{
     full_path, kept_under_a_fetch, no_write_back_before_the_period, one_read, overlapping_requests,
-    read_write_read, write_backs_out_of_order,
+    read_write_read, worked_are_lawful, write_backs_out_of_order,
 };

@@ -1,5 +1,6 @@
 //! Worked records: their transcripts, fetched leaves and residents are those that were worked out by hand.
 ghost use Rattle.tao_model.specs.Worked.{OneRead, ReadWriteRead, FullPath, OverlappingRequests, WriteBacksOutOfOrder, KeptUnderAFetch, NoWriteBackBeforeThePeriod, RootIsKept, AllIsHeld};
+ghost use Rattle.tao_model.specs.WorkedLawful.{WorkedAreLawful};
 
 /// One read of the one block, which lies in its leaf.
 pub fn one_read()
@@ -36,4 +37,9 @@ pub fn kept_under_a_fetch()
 /// Two fetches of a period of three: nothing is written back.
 pub fn no_write_back_before_the_period()
     ensures { NoWriteBackBeforeThePeriod }
+{}
+
+/// All of them are lawful.
+pub fn worked_are_lawful()
+    ensures { WorkedAreLawful }
 {}
