@@ -11,3 +11,6 @@ pub mod WordLaws
 pub mod FitLaws
 pub mod SpelledWords
 pub mod BodyLaws
+pub mod LinesLaws
+pub mod TextLaws
+pub mod ScriptLaws
