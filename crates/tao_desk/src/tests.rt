@@ -10,7 +10,10 @@ fn no_such_block(rt: HostRuntime) -> Result<(), Fail> {
     let mut blocks = Blocks::new(alloc);
     blocks.push(Block::from_slice(alloc, &[0, 0, 0, 0])?)?;
     let mut desk = Desk::start(alloc, p, Numbers::from_slice(alloc, &[1, 0])?, blocks)?;
-    assert_eq!(rt; desk.do_one(0, Op::Read(1)).err(), Some(ArriveFault::NoBlock));
+    assert_eq!(rt;
+        desk.do_one(0, Op::Read(1)).err(),
+        Some(ArriveFault::NoBlock)
+    );
     Ok(())
 }
 

@@ -57,4 +57,4 @@ bounds-as_slice-n c =
 pub returns-clause-left : goal.returns-clause-left
 returns-clause-left c =
     word_taken _ _ _ _ _ c.self.view_is c.requires.word ((c.self.invariant.1).quiet.arrived) (c.add_four.ensures.opening ∙ ap (λ h. h.opening) c.make_room.ensures.history)
-        ((invariant_of-self-2 c).1.quiet.arrived)
+    ((invariant_of-self-2 c).1.quiet.arrived)
