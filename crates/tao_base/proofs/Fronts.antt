@@ -1,5 +1,5 @@
 -- The front of a list that was written.
-use Rattle.std.proofs.Common.{◌<◌, ◌-◌, min, ◌≡◌, ℕ, ◌≤◌, ◌+◌, List, [], ◌++◌, length, take, drop, append-nil, refl, sym, ap, ◌∙◌, arith}
+use Rattle.std.proofs.Common.{◌<◌, ◌-◌, min, ◌≡◌, ℕ, ◌≤◌, ◌+◌, List, [], ◌++◌, length, take, drop, append-nil, sym, ap, ◌∙◌, arith}
 use Rattle.std.proofs.lemmas.List.{length-take-le, length-drop, take-append-le, take-take, take-append-drop, drop-drop, drop_all, take_all}
 use Rattle.tao_base.specs.Items.{with_front}
 

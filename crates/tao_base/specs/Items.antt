@@ -1,5 +1,5 @@
 -- What a list has once a slice lent from it is given back.
-use Rattle.std.specs.Prelude.{◌≡◌, ℕ, List, ◌++◌, length, take, drop}
+use Rattle.std.specs.Prelude.{List, ◌++◌, length, take, drop}
 use Rattle.std.specs.Borrow.{Lends, MutBor, Fml, Array, RattleType}
 use Rattle.tao_base.specs.contracts.lists.Items.{the_row}
 use Rattle.tao_base.specs.contracts.storage.Entries.{the_row as entries_row}

@@ -1,5 +1,5 @@
 -- The parameters of a store and their limits.
-use Rattle.std.specs.Prelude.{◌≡◌, ◌==◌, ℕ, ◌+◌, ◌-◌, ◌*◌, ◌/◌, ◌%◌, ◌^◌, ◌≤◌, ◌||◌, min, nat_lt, if◌then◌else◌, Result, Ok, Err}
+use Rattle.std.specs.Prelude.{◌≡◌, ℕ, ◌+◌, ◌*◌, ◌/◌, ◌%◌, ◌^◌, ◌≤◌, ◌||◌, min, nat_lt, if◌then◌else◌, Result, Ok, Err}
 use Rattle.tao_base.specs.declared.parameters.Form.{Form}
 use Rattle.tao_base.specs.declared.parameters.Form.TheVariants.{One, Two, Turn}
 use Rattle.tao_base.specs.declared.parameters.ParamFault.{ParamFault}

@@ -1,8 +1,8 @@
 -- What a link to the server may tell, and which orders it takes.
-use Rattle.std.specs.Prelude.{◌≡◌, ◌⊎◌, ℕ, ◌+◌, ◌*◌, ◌≤◌, ◌<◌, List, [], ◌∷◌, ◌++◌, length, take, drop, slice_index, Option, Some, None, Result, MatchResult, All, ⊤}
+use Rattle.std.specs.Prelude.{◌≡◌, ◌⊎◌, ℕ, ◌*◌, ◌≤◌, ◌<◌, List, [], ◌∷◌, ◌++◌, length, take, drop, slice_index, Option, Some, None, Result, MatchResult, All, ⊤}
 use Rattle.std.specs.Int.{w32, from_be_bytes}
 use Rattle.tao_base.specs.declared.links.Asked.{Asked}
-use Rattle.tao_base.specs.declared.links.Asked.TheVariants.{Fetch, Store}
+use Rattle.tao_base.specs.declared.links.Asked.TheVariants.{Store}
 use Rattle.tao_base.specs.declared.storage.Order.{Order}
 use Rattle.tao_base.specs.Tree.{node_count}
 

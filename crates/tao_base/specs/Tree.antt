@@ -1,5 +1,5 @@
 -- The tree of buckets: a complete binary tree of height l, its nodes numbered from 1 in heap order, its leaves from 0.
-use Rattle.std.specs.Prelude.{ℕ, nat_eq, ◌+◌, ◌-◌, ◌*◌, ◌/◌, ◌%◌, ◌^◌, Bool, List, map, filter}
+use Rattle.std.specs.Prelude.{ℕ, nat_eq, ◌+◌, ◌-◌, ◌/◌, ◌%◌, ◌^◌, Bool, List, map, filter}
 use Rattle.std.specs.List.{range_with_len, list_any}
 
 -- how many nodes a tree of this height has
