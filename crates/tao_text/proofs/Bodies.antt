@@ -1,12 +1,11 @@
 -- The lines behind the first two, read one after another.
-use Rattle.std.proofs.Common.{◌≡◌, ◌⊎◌, inl, inr, ℕ, ◌+◌, List, [], ◌∷◌, Result, Ok, Err, Option, Some, None, refl, sym, ap, ◌∙◌}
+use Rattle.std.proofs.Common.{◌≡◌, ◌⊎◌, inl, inr, ℕ, ◌+◌, List, [], ◌∷◌, Result, Ok, Err, Some, None, refl, sym, ap, ◌∙◌}
 use Rattle.std.specs.Result.{result_ok}
 use Rattle.tao_base.specs.Limits.{Shape}
 use Rattle.tao_text.specs.declared.faults.TextKind.{TextKind}
 use Rattle.tao_text.specs.declared.faults.TextKind.TheVariants.{NotText, Word, Number, Hex, Length, Range, Order, TapeShort, TooLong, Memory, Unbuilt}
 use Rattle.tao_text.specs.declared.reading.Body.{Body}
 use Rattle.tao_text.specs.declared.script.Script.{Script}
-use Rattle.tao_text.specs.Forms.{◌>>=◌}
 use Rattle.tao_text.specs.Scripts.{line_with, lines_with, no_memory, refusal, script_of, unbuilt, whole_script}
 
 pub goes_on : (s : Shape) (most number : ℕ) (body next : Body) (line : List ℕ) (parts rest : List (List ℕ)) (all : Result Body TextKind) → parts ≡ line ∷ rest → line_with s most number body line ≡ Ok next

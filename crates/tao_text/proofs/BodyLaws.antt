@@ -1,8 +1,8 @@
 -- What a line behind the first two reads is what spells it.
-use Rattle.std.proofs.Common.{◌≡◌, ◌≢◌, ◌==◌, ◌⊎◌, inl, inr, ℕ, suc, ◌+◌, ◌-◌, ◌<◌, ◌≤◌, ◌&&◌, not, Bool, true, false, cond, nat_lt, List, [], ◌∷◌, ◌++◌, length, map, slice_index, get_or, Option, Some, None, Result, Ok, Err, refl, sym, ap, subst, ◌∙◌, arith, append_assoc, length-append}
-use Rattle.std.specs.Prelude.{All, codes, slice_get}
+use Rattle.std.proofs.Common.{◌≡◌, ◌==◌, ◌⊎◌, inl, inr, ℕ, ◌-◌, ◌<◌, Bool, true, false, cond, nat_lt, List, [], ◌∷◌, ◌++◌, length, Option, Result, Ok, Err, refl, sym, ap, ◌∙◌}
+use Rattle.std.specs.Prelude.{codes, slice_get}
 use Rattle.std.specs.Str.{bytes_eq}
-use Rattle.std.proofs.lemmas.Bool.{and_parts, and_from, cases_Bool, eqb-true, eq-eqb, ltb-true, lt-ltb}
+use Rattle.std.proofs.lemmas.Bool.{and_parts, cases_Bool, eqb-true, eq-eqb, ltb-true, lt-ltb}
 use Rattle.std.proofs.lemmas.Slice.Eq.{bytes_eq-Decides}
 use Rattle.tao_base.specs.Limits.{Shape, IsShape}
 use Rattle.tao_base.specs.declared.calls.Op.{Op}
@@ -10,8 +10,6 @@ use Rattle.tao_base.specs.declared.storage.Entry.{Entry}
 use Rattle.tao_text.specs.declared.faults.TextKind.{TextKind}
 use Rattle.tao_text.specs.declared.faults.TextKind.TheVariants.{Word, Order, Unbuilt}
 use Rattle.tao_text.specs.declared.reading.Body.{Body}
-use Rattle.tao_text.specs.declared.script.Step.{Step}
-use Rattle.tao_text.specs.declared.script.What.TheVariants.{Do}
 use Rattle.tao_text.specs.Forms.{◌>>=◌, do_line, load_line, entry_fits, call_fits}
 use Rattle.tao_text.specs.Scripts.{do_step, do_with, is_above, is_plain, line_with, load_with, may_load, words_with}
 use Rattle.tao_text.specs.Spelling.{IsLine, SpellsCall, SpellsLoad, spelled}

@@ -1,6 +1,6 @@
 -- The readings of the line forms are their spellings.
-use Rattle.std.proofs.Common.{◌≡◌, ◌↔◌, ℕ, ◌+◌, ◌*◌, ◌%◌, ◌^◌, ◌<◌, ◌≤◌, ◌&&◌, ◌||◌, Bool, true, false, cond, nat_lt, List, [], ◌∷◌, length, map, Result, Ok, Err, refl, sym, ap, subst, ◌∙◌, arith, inl, inr, suc}
-use Rattle.std.specs.Prelude.{decimal, codes, All}
+use Rattle.std.proofs.Common.{◌≡◌, ℕ, ◌*◌, ◌%◌, ◌^◌, ◌<◌, ◌≤◌, ◌||◌, Bool, true, false, cond, nat_lt, List, [], ◌∷◌, length, map, Result, Ok, Err, refl, sym, ap, subst, ◌∙◌, arith, inl, inr, suc}
+use Rattle.std.specs.Prelude.{decimal, codes}
 use Rattle.std.specs.List.{AllByRecursion}
 use Rattle.std.specs.Str.{bytes_eq}
 use Rattle.std.proofs.lemmas.Bool.{cases_Bool, or_parts, or_from, ltb-false, le-ltb}
@@ -18,9 +18,9 @@ use Rattle.tao_base.specs.declared.parameters.ParamFault.{ParamFault}
 use Rattle.tao_base.specs.declared.parameters.ParamFault.TheVariants.{Height, BucketSize, BlockSize, Count, Period, TreeTooLarge}
 use Rattle.tao_base.specs.declared.storage.Entry.{Entry}
 use Rattle.tao_text.specs.declared.faults.TextKind.{TextKind}
-use Rattle.tao_text.specs.declared.faults.TextKind.TheVariants.{Range, Word}
+use Rattle.tao_text.specs.declared.faults.TextKind.TheVariants.{Word}
 use Rattle.tao_text.specs.Forms.{◌>>=◌, or_range, tree_line, numbers_of, tape_line, load_line, read_words, write_words, do_line}
-use Rattle.tao_text.specs.Spelling.{IsNumber, IsHex, tree_words, IsPlainShape, IsTape, SpellsLoad, SpellsCall}
+use Rattle.tao_text.specs.Spelling.{tree_words, IsPlainShape, IsTape, SpellsLoad, SpellsCall}
 use Rattle.tao_text.specs.Values.{number_of, hex_of}
 use Rattle.tao_text.proofs.ValueLaws.{number_is, number_reads, hex_is, hex_reads}
 

@@ -14,3 +14,4 @@ pub mod BodyLaws
 pub mod LinesLaws
 pub mod TextLaws
 pub mod ScriptLaws
+pub mod PrintLaws

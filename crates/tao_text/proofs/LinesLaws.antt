@@ -1,20 +1,18 @@
 -- What the lines behind the first two read is what spells them, and it keeps the limits.
-use Rattle.std.proofs.Common.{◌≡◌, ◌≢◌, ◌==◌, ◌⊎◌, inl, inr, ℕ, suc, ◌+◌, ◌-◌, ◌<◌, ◌≤◌, Bool, true, false, cond, nat_lt, List, [], ◌∷◌, ◌++◌, length, map, slice_index, get_or, Option, Some, None, Result, Ok, Err, refl, sym, ap, ap₂, subst, ◌∙◌, arith, append_assoc, length-append, add-zero}
-use Rattle.std.specs.Prelude.{All, codes, slice_get}
+use Rattle.std.proofs.Common.{◌≡◌, inl, inr, ℕ, suc, ◌+◌, ◌-◌, ◌<◌, ◌≤◌, true, List, [], ◌∷◌, ◌++◌, length, map, Option, Some, Ok, refl, sym, ap, ap₂, subst, ◌∙◌, arith, append_assoc, length-append, add-zero}
+use Rattle.std.specs.Prelude.{codes}
 use Rattle.std.specs.List.{AllByRecursion}
 use Rattle.std.proofs.lemmas.List.{append-nil, get_or-append-add}
 use Rattle.std.proofs.lemmas.Option.{slice_get-get_or}
 use Rattle.tao_base.specs.Limits.{Shape, IsShape}
 use Rattle.tao_base.specs.declared.calls.Op.{Op}
 use Rattle.tao_base.specs.declared.storage.Entry.{Entry}
-use Rattle.tao_text.specs.declared.faults.TextKind.{TextKind}
 use Rattle.tao_text.specs.declared.reading.Body.{Body}
 use Rattle.tao_text.specs.declared.script.Step.{Step}
 use Rattle.tao_text.specs.declared.script.What.{What}
 use Rattle.tao_text.specs.declared.script.What.TheVariants.{Do, A, Read as ReadAt, Done, Put, Ack}
-use Rattle.tao_text.specs.Forms.{◌>>=◌}
 use Rattle.tao_text.specs.Scripts.{do_step, is_above, line_with, lines_with}
-use Rattle.tao_text.specs.Spelling.{SpellsCall, SpellsLoad, spelled}
+use Rattle.tao_text.specs.Spelling.{SpellsCall, spelled}
 use Rattle.tao_text.specs.WholeScripts.{IsCallOf, IsEntryOf, IsStepOf, SpellsLoads, SpellsStep, SpellsSteps}
 use Rattle.tao_text.proofs.FormLaws.{bound, same_ok}
 use Rattle.tao_text.proofs.BodyLaws.{Calls, Loads, do_line_reads, last, line_is, load_line_reads, with_load, with_step}

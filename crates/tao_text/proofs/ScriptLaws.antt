@@ -1,11 +1,11 @@
 -- A script is read where it is spelled and within its limits, and only there.
-use Rattle.std.proofs.Common.{◌≡◌, ◌≢◌, ◌==◌, ℕ, zero, suc, ◌+◌, ◌-◌, ◌^◌, ◌<◌, ◌≤◌, ◌&&◌, min, nat_le, nat_lt, Bool, true, false, cond, List, [], ◌∷◌, ◌++◌, length, map, slice_index, get_or, Option, Some, None, Result, Ok, Err, refl, sym, ap, ap₂, subst, ◌∙◌, arith, not}
-use Rattle.std.specs.Prelude.{All, IfSome, codes, decimal, flat_map, replicate}
+use Rattle.std.proofs.Common.{◌≡◌, ◌==◌, ℕ, zero, suc, ◌+◌, ◌-◌, ◌^◌, ◌<◌, ◌≤◌, ◌&&◌, min, nat_le, nat_lt, Bool, true, false, cond, List, [], ◌∷◌, ◌++◌, length, map, Option, Some, None, Result, Ok, Err, refl, sym, ap, ap₂, subst, ◌∙◌, arith}
+use Rattle.std.specs.Prelude.{All, IfSome, codes, decimal, flat_map}
 use Rattle.std.specs.List.{AllByRecursion}
 use Rattle.std.specs.List.Sorted.{IsStrictlyIncreasing}
 use Rattle.std.specs.Result.{result_ok}
 use Rattle.std.specs.Str.{bytes_eq}
-use Rattle.std.proofs.lemmas.Bool.{and_parts, and_from, eqb-true, eq-eqb, le-leb, leb-true, le-ltb, ltb-false, lt-ltb, ltb-true}
+use Rattle.std.proofs.lemmas.Bool.{and_parts, eqb-true, eq-eqb, le-leb, leb-true, le-ltb, ltb-false, lt-ltb, ltb-true}
 use Rattle.std.proofs.lemmas.List.Elements.{All-from_recursion, recursion_from_All}
 use Rattle.std.proofs.lemmas.Option.{same_Some}
 use Rattle.std.proofs.lemmas.Slice.Eq.{bytes_eq-Decides}
@@ -16,14 +16,14 @@ use Rattle.tao_text.specs.declared.faults.TextKind.TheVariants.{Order, TapeShort
 use Rattle.tao_text.specs.declared.reading.Body.{Body}
 use Rattle.tao_text.specs.declared.script.Script.{Script}
 use Rattle.tao_text.specs.declared.script.Step.{Step}
-use Rattle.tao_text.specs.Forms.{◌>>=◌, tape_line, tree_line}
+use Rattle.tao_text.specs.Forms.{tape_line, tree_line}
 use Rattle.tao_text.specs.Scripts.{behind, ends_line, first_line, is_above, is_plain, lines_with, most_calls, no_body, script_lines, script_of, script_with, second_line, whole_script, words_behind}
 use Rattle.tao_text.specs.Spelling.{IsLine, IsPlainShape, IsTape, spelled, tree_words}
-use Rattle.tao_text.specs.WholeScripts.{IsEntryOf, IsScript, IsStepOf, SpellsLoads, SpellsScript, SpellsStep, SpellsSteps, spelled_line}
+use Rattle.tao_text.specs.WholeScripts.{IsEntryOf, IsScript, IsStepOf, SpellsLoads, SpellsScript, SpellsSteps, spelled_line}
 use Rattle.tao_text.specs.Words.{lines, words}
 use Rattle.tao_text.proofs.BodyLaws.{passed}
 use Rattle.tao_text.proofs.FormLaws.{bound, same_ok, tape_is, tape_reads, tree_is, tree_reads}
-use Rattle.tao_text.proofs.LinesLaws.{Reads, Rises, is_do, lines_are, lines_read}
+use Rattle.tao_text.proofs.LinesLaws.{Rises, is_do, lines_are, lines_read}
 use Rattle.tao_text.proofs.SpelledWords.{do_line_words, load_line_words, tape_line_words, tree_line_words}
 use Rattle.tao_text.proofs.TextLaws.{ended, ended_spelled, lines_spelled, spelled_ends, whole_text}
 use Rattle.tao_text.proofs.WordLaws.{plain_is, plain_reads, words_spelled}

@@ -1,5 +1,5 @@
 -- Which bytes are a script, and which one: the forms that are read by now.
-use Rattle.std.specs.Prelude.{ℕ, ◌+◌, ◌-◌, ◌^◌, min, nat_le, nat_lt, ◌==◌, ◌&&◌, ◌||◌, not, Bool, true, false, List, [], ◌∷◌, ◌++◌, length, slice_index, slice_get, replicate, codes, Option, Some, None, Result, Ok, Err, if◌then◌else◌}
+use Rattle.std.specs.Prelude.{ℕ, ◌+◌, ◌-◌, ◌^◌, min, nat_le, nat_lt, ◌==◌, ◌&&◌, not, Bool, true, List, [], ◌∷◌, ◌++◌, length, slice_index, slice_get, replicate, codes, Option, Some, None, Result, Ok, Err, if◌then◌else◌}
 use Rattle.std.specs.Result.{result_ok}
 use Rattle.std.specs.Str.{bytes_eq}
 use Rattle.tao_base.specs.Limits.{Shape, session_limit}
@@ -13,7 +13,7 @@ use Rattle.tao_text.specs.declared.script.Script.{Script}
 use Rattle.tao_text.specs.declared.script.Step.{Step}
 use Rattle.tao_text.specs.declared.script.What.TheVariants.{Do}
 use Rattle.tao_text.specs.Forms.{◌>>=◌, tree_line, tape_line, load_line, do_line, entry_fits, call_fits}
-use Rattle.tao_text.specs.Words.{lines, words, has_bytes}
+use Rattle.tao_text.specs.Words.{lines, words}
 
 -- a printable byte, and not a second space
 abbrev pub may_follow : ℕ → ℕ → Bool

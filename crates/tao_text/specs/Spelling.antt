@@ -1,5 +1,5 @@
 -- How scripts are spelled, line by line. Hex may be in digits of either case.
-use Rattle.std.specs.Prelude.{◌≡◌, ◌≢◌, ℕ, ◌^◌, ◌<◌, ◌≤◌, ◌++◌, List, [], ◌∷◌, length, map, slice_index, codes, decimal, All}
+use Rattle.std.specs.Prelude.{◌≡◌, ◌≢◌, ℕ, ◌^◌, ◌<◌, ◌≤◌, List, [], ◌∷◌, length, map, slice_index, codes, decimal, All}
 use Rattle.std.specs.List.{join_with_byte}
 use Rattle.std.specs.Str.{str_to_ascii_lowercase}
 use Rattle.hex.specs.Hex.{IsBytes, encode_lower}

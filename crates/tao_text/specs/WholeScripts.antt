@@ -8,7 +8,7 @@ use Rattle.tao_base.specs.declared.storage.Entry.{Entry}
 use Rattle.tao_text.specs.declared.script.Script.{Script}
 use Rattle.tao_text.specs.declared.script.Step.{Step}
 use Rattle.tao_text.specs.declared.script.What.{What}
-use Rattle.tao_text.specs.declared.script.What.TheVariants.{Do, A, Read as ReadAt, Done, Put, Ack}
+use Rattle.tao_text.specs.declared.script.What.TheVariants.{Do}
 use Rattle.tao_text.specs.Spelling.{IsPlainShape, IsTape, SpellsCall, SpellsLoad, spelled, tree_words}
 
 -- a line of a text

@@ -2,6 +2,7 @@
 ghost use Rattle.std.specs.Prelude.{◌≡◌, ◌⊎◌, ◌+◌, ◌^◌, ◌≤◌, ◌<◌, length, min, slice_get, ◌-◌, Some, None, IfOk, IfErr};
 ghost use Rattle.tao_text.specs.Scripts.{behind, do_with, first_line, is_above, is_plain, line_with, lines_with, load_with, may_follow, most_calls, no_body, no_memory, refusal, script_lines, script_of, second_line, spaced_once, unbuilt, whole_script};
 ghost use Rattle.tao_text.specs.Values.{Gives, Reads};
+ghost use Rattle.tao_text.specs.WholeScripts.{IsScript, SpellsScript};
 ghost use Rattle.tao_text.specs.Words.{lines, words};
 
 use crate::faults::{TextFault, TextKind};
@@ -16,6 +17,8 @@ use tao_base::{Entries, Numbers, Params};
 /// comments, have the fault Unbuilt, and want of memory the fault Memory, both with line 0.
 pub fn read_script(alloc: Global, bytes: &[u8]) -> Result<Script, TextFault>
     ensures read { IfOk result (λ script. script_of bytes.now ≡ Some script) }
+    ensures spelled { IfOk result (SpellsScript bytes.now) }
+    ensures limits { IfOk result IsScript }
     ensures refused { IfErr result (λ fault. (fault ≡ no_memory) ⊎ ((fault ≡ unbuilt) × (script_of bytes.now ≡ None))) }
 {
     match whole_script(alloc, bytes) {
