@@ -61,6 +61,7 @@ impl Desk {
         ensures state { IfOk result (λ d. d ≡ started p words blocks) }
         ensures sound { IfOk result (λ d. IsSound d.history) }
         ensures left { IfOk result (λ d. words_left d + p.n ≡ length words) }
+        ensures count { IfOk result (λ d. arrivals_of d.history ≡ 0) }
     {
         let n = p.n() as usize;
         let own = Numbers::from_slice(alloc, &words.as_slice()[..n])?;
@@ -95,6 +96,7 @@ impl Desk {
         ensures reply { IfOk result (λ r. r.value ≡ array_reply (array_now self.old.history.opening (reverse self.old.history.events)) op) }
         ensures tape { self.new.tape ≡ self.old.tape }
         ensures left { IfOk result (λ _. words_left self.new + 1 ≡ words_left self.old) }
+        ensures count { IfOk result (λ _. arrivals_of self.new.history ≡ arrivals_of self.old.history + 1) }
         ensures sound { IsSound self.new.history }
     {
         match self.refusal_of(&op) {

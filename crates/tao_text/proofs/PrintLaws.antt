@@ -3,8 +3,7 @@ use Rattle.std.proofs.Common.{◌≡◌, ℕ, List, [], ◌∷◌, ◌++◌, map
 use Rattle.std.specs.Prelude.{decimal, flat_map}
 use Rattle.std.proofs.lemmas.List.{append-nil}
 use Rattle.hex.specs.Hex.{encode_lower}
-use Rattle.tao_text.specs.HexLines.{hex_line}
-use Rattle.tao_text.specs.Lines.{spaced, words_line}
+use Rattle.tao_base.specs.Lines.{hex_line, spaced, spaced_hex, words_line}
 use Rattle.tao_text.specs.Spelling.{spelled}
 use Rattle.tao_text.specs.WholeScripts.{spelled_line}
 
@@ -31,7 +30,7 @@ words_line_is word numbers =
     ap (λ (text : List ℕ). word ++ text ++ 10 ∷ []) (numbers_further numbers) ∙ ap (λ (text : List ℕ). text ++ 10 ∷ []) (sym (spelled_is word (map decimal numbers)))
 
 pub hex_line_is : (word numbers value : List ℕ) → hex_line word numbers value ≡ spelled_line ((word ∷ map decimal numbers) ++ encode_lower value ∷ [])
-unfolding hex_line
+unfolding hex_line spaced_hex
 hex_line_is word numbers value =
     let text : word ++ flat_map spaced numbers ++ 32 ∷ encode_lower value ≡ spelled (word ∷ (map decimal numbers ++ encode_lower value ∷ [])) =
     append_assoc word (flat_map spaced numbers) (32 ∷ encode_lower value)

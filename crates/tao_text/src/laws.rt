@@ -2,13 +2,12 @@
 ghost use Rattle.std.specs.Prelude.{◌≡◌, ◌≢◌, ◌↔◌, ℕ, ◌<◌, List, [], ◌∷◌, ◌++◌, length, map, decimal, All, IsTrue, Ok, Err, Some};
 ghost use Rattle.hex.specs.Hex.{encode_lower};
 ghost use Rattle.tao_base.specs.Limits.{Shape};
+ghost use Rattle.tao_base.specs.Lines.{hex_line, words_line};
 ghost use Rattle.tao_base.specs.declared.calls.Op.{Op};
 ghost use Rattle.tao_base.specs.declared.storage.Entry.{Entry};
 ghost use Rattle.tao_text.specs.declared.faults.TextKind.{TextKind};
 ghost use Rattle.tao_text.specs.declared.script.Script.{Script};
 ghost use Rattle.tao_text.specs.Forms.{call_fits, do_line, entry_fits, load_line, tape_line, tree_line};
-ghost use Rattle.tao_text.specs.HexLines.{hex_line};
-ghost use Rattle.tao_text.specs.Lines.{words_line};
 ghost use Rattle.tao_text.specs.Scripts.{is_plain, script_of};
 ghost use Rattle.tao_text.specs.Spelling.{IsHex, IsLine, IsNumber, IsPlainShape, IsTape, SpellsCall, SpellsLoad, spelled, tree_words};
 ghost use Rattle.tao_text.specs.Values.{hex_of, number_of};

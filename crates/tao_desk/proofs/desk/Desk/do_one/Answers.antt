@@ -1,4 +1,4 @@
-use Rattle.std.proofs.Common.{◌≡◌, ◌∙◌, ◌<◌, sym, ap, subst}
+use Rattle.std.proofs.Common.{◌≡◌, ◌∙◌, ◌+◌, ◌<◌, sym, ap, subst}
 use Rattle.tao_base.specs.Limits.{session_limit}
 use Rattle.tao_model.specs.Lawful.{IsInRange}
 use Rattle.tao_desk.specs.Whole.{DeskState, arrivals_of}
@@ -58,3 +58,7 @@ pub returns-clause-left : goal.returns-clause-left
 returns-clause-left c =
     word_taken _ _ _ _ _ c.self.view_is c.requires.word ((c.self.invariant.1).quiet.arrived) (c.add_four.ensures.opening ∙ ap (λ h. h.opening) c.make_room.ensures.history)
     ((invariant_of-self-2 c).1.quiet.arrived)
+
+pub returns-clause-count : goal.returns-clause-count
+returns-clause-count c =
+    (invariant_of-self-2 c).1.quiet.arrived ∙ ap (λ k. k + 1) (sym ((c.self.invariant.1).quiet.arrived) ∙ ap (λ (d : DeskState). arrivals_of d.history) c.self.view_is)
