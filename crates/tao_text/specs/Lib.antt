@@ -5,3 +5,4 @@ pub mod Forms
 pub mod Scripts
 pub mod Spelling
 pub mod WholeScripts
+pub mod Kinds

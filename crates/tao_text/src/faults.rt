@@ -31,21 +31,38 @@ pub enum TextKind {
     Unbuilt = 11,
 }
 
-impl fmt::Display for TextKind {
-    fn fmt<W: fmt::Write>(&self, f: &mut fmt::Formatter<W>) -> fmt::Result {
+impl TextKind {
+    ghost use Rattle.std.specs.Prelude.{◌≡◌};
+    ghost use Rattle.tao_text.specs.Kinds.{kind_name};
+
+    /// The name by which a transcript tells the fault.
+    pub fn name(self) -> &'static str
+        ensures { result.now ≡ kind_name self }
+    {
         match self {
-            TextKind::NotText => write!(f, "NotText"),
-            TextKind::Word => write!(f, "Word"),
-            TextKind::Number => write!(f, "Number"),
-            TextKind::Hex => write!(f, "Hex"),
-            TextKind::Length => write!(f, "Length"),
-            TextKind::Range => write!(f, "Range"),
-            TextKind::Order => write!(f, "Order"),
-            TextKind::TapeShort => write!(f, "TapeShort"),
-            TextKind::TooLong => write!(f, "TooLong"),
-            TextKind::Memory => write!(f, "Memory"),
-            TextKind::Unbuilt => write!(f, "Unbuilt"),
+            TextKind::NotText => "NotText",
+            TextKind::Word => "Word",
+            TextKind::Number => "Number",
+            TextKind::Hex => "Hex",
+            TextKind::Length => "Length",
+            TextKind::Range => "Range",
+            TextKind::Order => "Order",
+            TextKind::TapeShort => "TapeShort",
+            TextKind::TooLong => "TooLong",
+            TextKind::Memory => "Memory",
+            TextKind::Unbuilt => "Unbuilt",
         }
+    }
+}
+
+impl fmt::Display for TextKind {
+    ghost use Rattle.std.specs.Prelude.{Some};
+    ghost use Rattle.tao_text.specs.Kinds.{kind_name};
+
+    ghost output = { λ kind. Some (kind_name kind) };
+
+    fn fmt<W: fmt::Write>(&self, f: &mut fmt::Formatter<W>) -> fmt::Result {
+        write!(f, "{}", self.name())
     }
 }
 

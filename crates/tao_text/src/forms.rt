@@ -5,14 +5,14 @@ ghost use Rattle.tao_text.specs.Values.{Gives};
 ghost use Rattle.tao_text.specs.Words.{words};
 
 use crate::faults::TextKind;
-use crate::values::{hex_bytes, number};
+use crate::values::{hex_of, number_of};
 use crate::words::{next_word, no_more_words};
 use std::alloc::Global;
 use tao_base::{Entry, Numbers, Op, Params};
 
 #[tactic(auto, unfolding(crate::specs::Forms::tree_line))]
 /// The parameters of `tree L Z B N k`.
-pub(crate) fn tree(line: &[u8]) -> Result<Params, TextKind>
+pub(crate) fn tree_line(line: &[u8]) -> Result<Params, TextKind>
     ensures { result ≡ tree_line (words line.now) }
 {
     let (l, rest) = next_word(line)?;
@@ -21,7 +21,13 @@ pub(crate) fn tree(line: &[u8]) -> Result<Params, TextKind>
     let (n, rest) = next_word(rest)?;
     let (k, rest) = next_word(rest)?;
     no_more_words(rest)?;
-    match Params::new(number(l)?, number(z)?, number(b)?, number(n)?, number(k)?) {
+    match Params::new(
+        number_of(l)?,
+        number_of(z)?,
+        number_of(b)?,
+        number_of(n)?,
+        number_of(k)?,
+    ) {
         Ok(params) => Ok(params),
         Err(_) => Err(TextKind::Range),
     }
@@ -29,21 +35,21 @@ pub(crate) fn tree(line: &[u8]) -> Result<Params, TextKind>
 
 #[tactic(auto, unfolding(crate::specs::Forms::tape_line))]
 /// The words of `tape W W ..`.
-pub(crate) fn tape(alloc: Global, line: &[u8]) -> Result<Numbers, TextKind>
+pub(crate) fn tape_line(alloc: Global, line: &[u8]) -> Result<Numbers, TextKind>
     ensures { Gives (λ numbers. numbers) result (tape_line (words line.now)) }
 {
     next_word(line)?;
-    numbers(alloc, line)
+    numbers_of(alloc, line)
 }
 
 #[tactic(auto, using(crate::proofs::Tapes::with_none, crate::proofs::Tapes::goes_on, crate::proofs::Tapes::stops, crate::proofs::Tapes::is_done))]
-fn numbers(alloc: Global, line: &[u8]) -> Result<Numbers, TextKind>
+fn numbers_of(alloc: Global, line: &[u8]) -> Result<Numbers, TextKind>
     ensures { Gives (λ numbers. numbers) result (numbers_of (words line.now)) }
 {
     let mut numbers = Numbers::new(alloc);
     let mut rest = line;
     while let Ok((word, after)) = next_word(rest) {
-        numbers.push(number(word)?)?;
+        numbers.push(number_of(word)?)?;
         rest = after;
     }
     Ok(numbers)
@@ -51,59 +57,59 @@ fn numbers(alloc: Global, line: &[u8]) -> Result<Numbers, TextKind>
 
 #[tactic(auto, unfolding(crate::specs::Forms::load_line))]
 /// The entry of `load ID HEX`.
-pub(crate) fn load(alloc: Global, line: &[u8]) -> Result<Entry, TextKind>
+pub(crate) fn load_line(alloc: Global, line: &[u8]) -> Result<Entry, TextKind>
     ensures { Gives (λ entry. entry) result (load_line (words line.now)) }
 {
     let (id, rest) = next_word(line)?;
     let (value, rest) = next_word(rest)?;
     no_more_words(rest)?;
-    let id = number(id)?;
-    let value = hex_bytes(alloc, value)?;
+    let id = number_of(id)?;
+    let value = hex_of(alloc, value)?;
     Ok(Entry { id, value })
 }
 
 #[tactic(auto, unfolding(crate::specs::Forms::do_line))]
 /// The client and the operation of `do C read ID` or `do C write ID HEX`.
-pub(crate) fn call(alloc: Global, line: &[u8]) -> Result<(u32, Op), TextKind>
+pub(crate) fn do_line(alloc: Global, line: &[u8]) -> Result<(u32, Op), TextKind>
     ensures { Gives (λ call. call) result (do_line (words line.now)) }
 {
     let (client, rest) = next_word(line)?;
     let (name, rest) = next_word(rest)?;
     let (id, rest) = next_word(rest)?;
     if name == b"read".as_slice() {
-        return read(client, id, rest);
+        return read_words(client, id, rest);
     }
     if name == b"write".as_slice() {
-        return write(alloc, client, id, rest);
+        return write_words(alloc, client, id, rest);
     }
     Err(TextKind::Word)
 }
 
 #[tactic(auto, unfolding(crate::specs::Forms::read_words))]
-fn read(client: &[u8], id: &[u8], rest: &[u8]) -> Result<(u32, Op), TextKind>
+fn read_words(client: &[u8], id: &[u8], rest: &[u8]) -> Result<(u32, Op), TextKind>
     ensures { result ≡ read_words client.now id.now (words rest.now) }
 {
     no_more_words(rest)?;
-    let client = number(client)?;
-    let id = number(id)?;
+    let client = number_of(client)?;
+    let id = number_of(id)?;
     Ok((client, Op::Read(id)))
 }
 
 #[tactic(auto, unfolding(crate::specs::Forms::write_words))]
-fn write(alloc: Global, client: &[u8], id: &[u8], rest: &[u8]) -> Result<(u32, Op), TextKind>
+fn write_words(alloc: Global, client: &[u8], id: &[u8], rest: &[u8]) -> Result<(u32, Op), TextKind>
     ensures { Gives (λ call. call) result (write_words client.now id.now (words rest.now)) }
 {
     let (value, rest) = next_word(rest)?;
     no_more_words(rest)?;
-    let client = number(client)?;
-    let id = number(id)?;
-    let value = hex_bytes(alloc, value)?;
+    let client = number_of(client)?;
+    let id = number_of(id)?;
+    let value = hex_of(alloc, value)?;
     Ok((client, Op::Write(id, value)))
 }
 
 #[tactic(auto, unfolding(crate::specs::Forms::entry_fits))]
 /// Whether an entry is within the parameters.
-pub(crate) fn check_entry(params: &Params, entry: &Entry) -> Result<(), TextKind>
+pub(crate) fn entry_fits(params: &Params, entry: &Entry) -> Result<(), TextKind>
     ensures { result ≡ entry_fits params.now entry.now }
 {
     if entry.value.as_slice().len() != params.b() as usize {
@@ -117,7 +123,7 @@ pub(crate) fn check_entry(params: &Params, entry: &Entry) -> Result<(), TextKind
 
 #[tactic(auto, unfolding(crate::specs::Forms::call_fits))]
 /// Whether a client and its operation are within the parameters.
-pub(crate) fn check_call(params: &Params, client: u32, op: &Op) -> Result<(), TextKind>
+pub(crate) fn call_fits(params: &Params, client: u32, op: &Op) -> Result<(), TextKind>
     ensures { result ≡ call_fits params.now client op.now }
 {
     if let Op::Write(_, value) = op {

@@ -6,7 +6,7 @@ ghost use Rattle.tao_text.specs.WholeScripts.{IsScript, SpellsScript};
 ghost use Rattle.tao_text.specs.Words.{lines, words};
 
 use crate::faults::{TextFault, TextKind};
-use crate::forms::{call, check_call, check_entry, load, tape, tree};
+use crate::forms::{call_fits, do_line, entry_fits, load_line, tape_line, tree_line};
 use crate::script::{Script, Step, Steps, What};
 use crate::words::{next_line, next_word};
 use std::alloc::Global;
@@ -81,7 +81,7 @@ fn script_lines(alloc: Global, text: &[u8]) -> Result<Script, TextKind>
 fn first_line(line: &[u8]) -> Result<Params, TextKind>
     ensures { result ≡ first_line line.now }
 {
-    let params = tree(behind(b"tree", line)?)?;
+    let params = tree_line(behind(b"tree", line)?)?;
     if params.k() != 1 {
         return Err(TextKind::Unbuilt);
     }
@@ -92,7 +92,7 @@ fn first_line(line: &[u8]) -> Result<Params, TextKind>
 fn second_line(alloc: Global, params: &Params, line: &[u8]) -> Result<Numbers, TextKind>
     ensures { Gives (λ tape. tape) result (second_line params.now line.now) }
 {
-    let tape = tape(alloc, behind(b"tape", line)?)?;
+    let tape = tape_line(alloc, behind(b"tape", line)?)?;
     if tape.as_slice().len() < params.n() as usize {
         return Err(TextKind::TapeShort);
     }
@@ -160,8 +160,8 @@ fn add_line(
 fn add_load(alloc: Global, params: &Params, body: &mut Body, rest: &[u8]) -> Result<(), TextKind>
     ensures { Gives (λ _. body.new) result (load_with params.now body.old (words rest.now)) }
 {
-    let entry = load(alloc, rest)?;
-    check_entry(params, &entry)?;
+    let entry = load_line(alloc, rest)?;
+    entry_fits(params, &entry)?;
     if !body.steps.as_slice().is_empty() || !is_above(&body.loads, entry.id) {
         return Err(TextKind::Order);
     }
@@ -190,8 +190,8 @@ fn add_call(
 ) -> Result<(), TextKind>
     ensures { Gives (λ _. body.new) result (do_with params.now most number body.old (words rest.now)) }
 {
-    let (client, op) = call(alloc, rest)?;
-    check_call(params, client, &op)?;
+    let (client, op) = do_line(alloc, rest)?;
+    call_fits(params, client, &op)?;
     if most <= body.steps.as_slice().len() {
         return Err(TextKind::Unbuilt);
     }

@@ -9,7 +9,7 @@ use tao_base::Block;
 
 #[tactic(auto, using(crate::proofs::Numbers::number_small, crate::proofs::Numbers::number_large, crate::proofs::Numbers::number_none))]
 /// The Number that a word spells.
-pub(crate) fn number(word: &[u8]) -> Result<u32, TextKind>
+pub(crate) fn number_of(word: &[u8]) -> Result<u32, TextKind>
     ensures { result ≡ number_of word.now }
 {
     match wide_number(word) {
@@ -43,7 +43,7 @@ pub(crate) fn wide_number(word: &[u8]) -> Option<u64>
 
 #[tactic(auto, unfolding(crate::specs::Values::hex_of))]
 /// The bytes whose hex a word is.
-pub(crate) fn hex_bytes(alloc: Global, word: &[u8]) -> Result<Block, TextKind>
+pub(crate) fn hex_of(alloc: Global, word: &[u8]) -> Result<Block, TextKind>
     ensures { Gives (λ bytes. bytes) result (hex_of word.now) }
 {
     match hex::decode(alloc, word) {
