@@ -1,0 +1,4 @@
+pub mod Endings
+pub mod Input
+pub mod Output
+pub mod Words

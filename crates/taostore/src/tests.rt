@@ -1,0 +1,215 @@
+ghost use Rattle.std.specs.Prelude.{◌≤◌, None, IfOk};
+ghost use Rattle.tao_base.specs.Memory.{no_half};
+
+use crate::output::finish;
+use crate::standard::{read_uninterrupted, write_uninterrupted};
+use crate::{End, Kept, StdSink, StdSource, play_top, taostore};
+use std::alloc::{AllocError, Global};
+use std::io;
+use std::test::Fail;
+use tao_base::{ByteSink, ByteSource, Failed, Image, NoMemory, Numbers, Sink, Source};
+
+const SCRIPT: &[u8] = b"tree 1 1 4 1 1\ntape 1 0\ndo 0 read 0\n";
+
+fn words_of(alloc: Global, line: &str) -> Result<Vec<String>, AllocError> {
+    let mut words = Vec::new(alloc);
+    for word in line.split_whitespace() {
+        words.push(String::from_str(alloc, word)?)?;
+    }
+    Ok(words)
+}
+
+// A source whose calls with these numbers fail.
+fn source_of(alloc: Global, bytes: Image, fails: &[u32]) -> Result<ByteSource, NoMemory> {
+    Ok(ByteSource::new(bytes, Numbers::from_slice(alloc, fails)?))
+}
+
+// A sink with this much room, whose calls with these numbers fail.
+fn sink_of(alloc: Global, room: usize, fails: &[u32]) -> Result<ByteSink, NoMemory> {
+    let mut sink = ByteSink::new(alloc, Numbers::from_slice(alloc, fails)?);
+    sink.reserve(room)?;
+    Ok(sink)
+}
+
+fn repeated(alloc: Global, byte: u8, len: usize) -> Result<Image, AllocError> {
+    Ok(Image::from_vec(vec![in alloc; byte; len]?))
+}
+
+// Gives one byte a call.
+#[derive(Drop)]
+struct SlowSource {
+    bytes: ByteSource,
+}
+
+impl Source for SlowSource {
+    ghost left = { λ _. None };
+
+    ghost faults = { λ s. s.bytes.faults };
+
+    ghost beside = { λ _. no_half };
+
+    fn read(&mut self, room: &mut [u8]) -> Result<usize, Failed> {
+        self.bytes.read(&mut room[..1])
+    }
+}
+
+// Takes one byte a call.
+#[derive(Drop)]
+struct SlowSink {
+    bytes: ByteSink,
+}
+
+impl Sink for SlowSink {
+    ghost put = { λ _. None };
+
+    ghost faults = { λ s. s.bytes.faults };
+
+    ghost apart = { λ _. no_half };
+
+    fn write(&mut self, bytes: &[u8]) -> Result<usize, Failed> {
+        self.bytes.write(&bytes[..1])
+    }
+}
+
+// The program on these words and the script; the reads and writes with these numbers fail, and the sink has this much room.
+fn run(
+    alloc: Global,
+    line: &str,
+    reads: &[u32],
+    writes: &[u32],
+    room: usize,
+) -> Result<(u8, ByteSink), NoMemory> {
+    let words = words_of(alloc, line)?;
+    let mut source = source_of(alloc, Image::from_slice(alloc, SCRIPT)?, reads)?;
+    let mut sink = sink_of(alloc, room, writes)?;
+    let mut kept = Kept { history: None };
+    let status = taostore(alloc, &words, &mut source, &mut sink, &mut kept);
+    Ok((status, sink))
+}
+
+// the words, the reads and the writes that fail, and the sink's room; the status, and what is written
+static FAULTS: [(&str, &[u32], &[u32], usize, u8, &str); 13] = [
+    ("paly", &[], &[], 99, 2, "end 2\n"),
+    ("", &[], &[], 99, 2, "end 2\n"),
+    ("play play", &[], &[], 99, 2, "end 2\n"),
+    ("--help", &[], &[], 99, 2, "end 2\n"),
+    ("paly", &[], &[0], 99, 5, ""),
+    ("paly", &[], &[], 3, 5, "end"),
+    ("play", &[], &[], 99, 3, "end 3 0 Unbuilt\n"),
+    ("play", &[0], &[], 99, 4, "end 4\n"),
+    ("play", &[1], &[], 99, 4, "end 4\n"),
+    ("play", &[], &[0], 99, 5, ""),
+    ("play", &[], &[], 15, 5, "end 3 0 Unbuilt"),
+    ("play", &[1], &[0], 99, 5, ""),
+    ("play", &[0], &[], 4, 5, "end "),
+];
+
+#[test]
+fn program_faults(rt: HostRuntime) -> Result<(), Fail> {
+    for (line, reads, writes, room, status, text) in &FAULTS {
+        let (answer, sink) = run(rt.alloc(), line, reads, writes, *room)?;
+        let written = (answer, sink.bytes());
+        assert_eq!(rt; written, (*status, text.as_bytes()), "at {line}, {room}");
+    }
+    Ok(())
+}
+
+#[test]
+fn one_byte_at_a_time(rt: HostRuntime) -> Result<(), Fail> {
+    let alloc = rt.alloc();
+    let bytes = source_of(alloc, Image::from_slice(alloc, SCRIPT)?, &[])?;
+    let mut source = SlowSource { bytes };
+    let mut sink = SlowSink {
+        bytes: sink_of(alloc, 99, &[])?,
+    };
+    let mut kept = Kept { history: None };
+    let status = play_top(alloc, &mut source, &mut sink, &mut kept);
+    assert_eq!(rt; status, 3);
+    assert_eq!(rt; sink.bytes.bytes(), b"end 3 0 Unbuilt\n".as_slice());
+    assert_eq!(rt; source.read(&mut [0u8; 9]).ok(), Some(0));
+    Ok(())
+}
+
+// two bytes more than a script may have
+#[test]
+fn one_byte_left_unread(rt: HostRuntime) -> Result<(), Fail> {
+    let alloc = rt.alloc();
+    let mut source = source_of(alloc, repeated(alloc, b'#', (1 << 24) + 2)?, &[])?;
+    let mut sink = sink_of(alloc, 99, &[])?;
+    let mut kept = Kept { history: None };
+    let status = play_top(alloc, &mut source, &mut sink, &mut kept);
+    assert_eq!(rt; status, 3);
+    assert_eq!(rt; sink.bytes(), b"end 3 0 Unbuilt\n".as_slice());
+    assert_eq!(rt; source.read(&mut [0u8; 9]).ok(), Some(1));
+    Ok(())
+}
+
+// A stream that a signal interrupts so often, and that then moves so many bytes a call.
+#[derive(Drop)]
+struct Signals {
+    left: u32,
+    moves: usize,
+}
+
+impl Signals {
+    fn turn(&mut self, len: usize) -> io::Result<usize>
+        ensures { IfOk result (λ n. n ≤ len) }
+    {
+        if self.left == 0 {
+            return Ok(self.moves.min(len));
+        }
+        self.left -= 1;
+        Err(io::Error::from(io::ErrorKind::Interrupted))
+    }
+}
+
+impl io::Read for Signals {
+    fn read(&mut self, room: &mut [u8]) -> io::Result<usize> {
+        self.turn(room.len())
+    }
+}
+
+impl io::Write for Signals {
+    fn write(&mut self, bytes: &[u8]) -> io::Result<usize> {
+        self.turn(bytes.len())
+    }
+
+    fn flush(&mut self) -> io::Result<()> {
+        Ok(())
+    }
+}
+
+// how often a signal comes, the bytes a call then moves; what is read, and what is written
+#[test]
+fn interrupted_calls(rt: HostRuntime) -> Result<(), Fail> {
+    for (left, moves, read, written) in [
+        (0, 2, Some(2), Some(2)),
+        (9, 3, Some(3), Some(3)),
+        (9, 0, Some(0), None),
+        (u32::MAX, 3, None, None),
+    ] {
+        let mut room = [0u8; 4];
+        let taken = read_uninterrupted(&mut Signals { left, moves }, &mut room);
+        let put = write_uninterrupted(&mut Signals { left, moves }, b"text");
+        assert_eq!(rt;
+            (taken.ok(), put.ok()),
+            (read, written),
+            "at {left}, {moves}"
+        );
+    }
+    Ok(())
+}
+
+#[test]
+fn standard_input(rt: HostRuntime) -> Result<(), Fail> {
+    let mut source = StdSource::new(rt.stdin());
+    assert!(rt; source.read(&mut [0u8; 9]).is_ok());
+    Ok(())
+}
+
+#[test]
+fn standard_output(rt: HostRuntime) -> Result<(), Fail> {
+    let mut sink = StdSink::new(rt.stdout());
+    assert_eq!(rt; finish(&mut sink, End::Refused), 2);
+    Ok(())
+}
