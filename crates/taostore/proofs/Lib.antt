@@ -1,2 +1,4 @@
+pub mod Fronts
+pub mod Plays
 pub mod Transfers
 pub mod WordLemmas

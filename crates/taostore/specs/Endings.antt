@@ -1,13 +1,23 @@
 -- How the commands end: each with a last line and a status, and with what has then become of the source.
-use Rattle.std.specs.Prelude.{◌≡◌, ℕ, ◌+◌, ◌^◌, List, [], ◌∷◌, ◌++◌, codes, Option}
+use Rattle.std.specs.Prelude.{◌≡◌, ◌⊎◌, ℕ, ◌+◌, ◌^◌, List, [], ◌∷◌, ◌++◌, take, reverse, codes, Option, Some, None, ⊤}
+use Rattle.std.specs.Option.{option_map}
+use Rattle.std.specs.Io.KnownBytes.{Consumes, IsAtEnd}
+use Rattle.tao_base.specs.Session.{History}
+use Rattle.tao_model.specs.Replies.{array_now}
+use Rattle.tao_model.specs.Transcript.{transcript}
+use Rattle.tao_record.specs.State.{RecordState}
+use Rattle.tao_text.specs.Scripts.{script_of}
+use Rattle.tao_text.specs.declared.script.Script.{Script}
 use Rattle.tao_base.specs.Causes.{Rose}
 use Rattle.taostore.specs.declared.output.End.{End}
-use Rattle.taostore.specs.declared.output.End.TheVariants.{Refused, Unbuilt, SourceFailed, NoMemory}
+use Rattle.taostore.specs.declared.output.End.TheVariants.{Done, Refused, Unbuilt, SourceFailed, NoMemory}
 use Rattle.taostore.specs.Input.{TakesFront, TakesInput}
 use Rattle.taostore.specs.Output.{Finishes}
+use Rattle.taostore.specs.Playing.{IsPlayed}
 
 -- the exit status
 abbrev pub status_of : End → ℕ
+status_of Done = 0
 status_of Refused = 2
 status_of Unbuilt = 3
 status_of SourceFailed = 4
@@ -15,6 +25,7 @@ status_of NoMemory = 8
 
 -- the last line
 abbrev pub end_line : End → List ℕ
+end_line Done = codes "end 0" ++ 10 ∷ []
 end_line Refused = codes "end 2" ++ 10 ∷ []
 end_line Unbuilt = codes "end 3 0 Unbuilt" ++ 10 ∷ []
 end_line SourceFailed = codes "end 4" ++ 10 ∷ []
@@ -22,19 +33,59 @@ end_line NoMemory = codes "end 8" ++ 10 ∷ []
 
 -- the ends of a call with refused words, each with its text
 abbrev pub RefusedEnds : End → List ℕ → Type 0
+RefusedEnds Done text = ⊥
 RefusedEnds Refused text = text ≡ end_line Refused
 RefusedEnds Unbuilt text = ⊥
 RefusedEnds SourceFailed text = ⊥
 RefusedEnds NoMemory text = text ≡ end_line NoMemory
 
--- The ends of a play, each with its text. No script can be read yet: the play refuses what it has taken, which is all that the source had
--- left or the first 2 ^ 24 + 1 bytes of it. It ends with 4 only where the source failed.
+-- what is kept of the session, if it was opened
+abbrev pub kept_history : Option RecordState → Option History
+kept_history kept = option_map (λ r. r.history) kept
+
+-- the record as far as it came, where memory ran out; before the session was opened there is none
+abbrev pub KeepsPart : Script → Option History → Type 0
+KeepsPart script None = ⊤
+KeepsPart script (Some session) = (count : ℕ) × IsPlayed script (take count script.steps) session
+
+-- all was played: the record is kept, and the text is its whole transcript
+pub record KeepsAll (script : Script) (kept : Option History) (text : List ℕ) : Type 0 where
+  pub session : History
+  pub keeps : kept ≡ Some session
+  pub played : IsPlayed script script.steps session
+  pub told : text ≡ transcript session 0 (Some (array_now session.opening (reverse session.events))) (end_line Done)
+
+-- how the play of a script ends, what it keeps, and its text
+abbrev pub ScriptEnds : Script → Option History → End → List ℕ → Type 0
+ScriptEnds script kept Done text = KeepsAll script kept text
+ScriptEnds script kept Refused text = ⊥
+ScriptEnds script kept Unbuilt text = ⊥
+ScriptEnds script kept SourceFailed text = ⊥
+ScriptEnds script kept NoMemory text = KeepsPart script kept × (text ≡ end_line NoMemory)
+
 module _ {S : Type 0} (left : S → Option (List ℕ)) (faults : S → ℕ) (old new : S) where
-  abbrev pub PlayEnds : End → List ℕ → Type 0
-  PlayEnds Refused text = ⊥
-  PlayEnds Unbuilt text = ((bytes : List ℕ) × TakesInput left old new (2 ^ 24 + 1) bytes) × (faults new ≡ faults old) × (text ≡ end_line Unbuilt)
-  PlayEnds SourceFailed text = TakesFront left old new × Rose (faults old) (faults new) × (text ≡ end_line SourceFailed)
-  PlayEnds NoMemory text = TakesFront left old new × (text ≡ end_line NoMemory)
+  -- all that the source had left is the script
+  pub record TakesScript (script : Script) : Type 0 where
+    pub bytes : List ℕ
+    pub taken : Consumes (left old) (left new) bytes
+    pub at_end : IsAtEnd (left new)
+    pub unfailed : faults new ≡ faults old
+    pub read : script_of bytes ≡ Some script
+
+  -- what the source had left, or the first 2 ^ 24 + 1 bytes of it, is no script
+  pub record TakesNone : Type 0 where
+    pub bytes : List ℕ
+    pub taken : TakesInput left old new (2 ^ 24 + 1) bytes
+    pub unfailed : faults new ≡ faults old
+    pub unread : script_of bytes ≡ None
+
+  -- the ends of a play, each with what it has taken and kept and with its text; it ends with 4 only where the source failed
+  abbrev pub PlayEnds : Option History → End → List ℕ → Type 0
+  PlayEnds kept Done text = (script : Script) × TakesScript script × ScriptEnds script kept Done text
+  PlayEnds kept Refused text = ⊥
+  PlayEnds kept Unbuilt text = TakesNone × (kept ≡ None) × (text ≡ end_line Unbuilt)
+  PlayEnds kept SourceFailed text = TakesFront left old new × Rose (faults old) (faults new) × (kept ≡ None) × (text ≡ end_line SourceFailed)
+  PlayEnds kept NoMemory text = TakesFront left old new × ((kept ≡ None) ⊎ ((script : Script) × TakesScript script × KeepsPart script kept)) × (text ≡ end_line NoMemory)
 
 -- the call has ended in one of these ways, or was about to when its sink failed
 abbrev pub EndsAs : {K : Type 0} → (K → Option (List ℕ)) → (K → ℕ) → K → K → (End → List ℕ → Type 0) → ℕ → Type 0

@@ -1,4 +1,5 @@
 pub mod Endings
 pub mod Input
 pub mod Output
+pub mod Playing
 pub mod Words

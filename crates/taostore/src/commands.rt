@@ -1,10 +1,10 @@
 //! The commands by their words.
-ghost use Rattle.std.specs.Prelude.{◌≡◌, ◌⊎◌, ◌^◌, ◌+◌, ◌↔◌, ℕ, List, map, IsNone, IsTrue, string_bytes};
+ghost use Rattle.std.specs.Prelude.{◌≡◌, ◌⊎◌, ◌↔◌, map, IsNone, IsTrue, string_bytes};
 ghost use Rattle.std.specs.Io.KnownBytes.{Keeps};
 ghost use Rattle.tao_base.specs.Causes.{Rose};
-ghost use Rattle.taostore.specs.Input.{TakesInput};
+ghost use Rattle.tao_text.specs.declared.script.Script.{Script};
 ghost use Rattle.taostore.specs.Output.{PutsMore};
-ghost use Rattle.taostore.specs.Endings.{EndsAs, PlayEnds, RefusedEnds};
+ghost use Rattle.taostore.specs.Endings.{EndsAs, PlayEnds, RefusedEnds, TakesScript, TakesNone, kept_history};
 ghost use Rattle.taostore.specs.Words.{AskToPlay, AreRefused};
 
 use crate::output::{End, finish};
@@ -33,24 +33,26 @@ pub fn taostore<S: Source, K: Sink>(
     ensures untouched { AreRefused (map string_bytes words.now)
         → Keeps (S.left source.old) (S.left source.new) × (S.faults source.new ≡ S.faults source.old) }
     ensures play { AskToPlay (map string_bytes words.now)
-        → EndsAs K.put K.faults sink.old sink.new (PlayEnds S.left S.faults source.old source.new) result }
+        → EndsAs K.put K.faults sink.old sink.new (PlayEnds S.left S.faults source.old source.new (kept_history kept.new.history)) result }
     ensures front { PutsMore K.put sink.old sink.new }
-    ensures kept { IsNone kept.new.history }
+    ensures kept { AreRefused (map string_bytes words.now) → IsNone kept.new.history }
 
     // Each answer has its cause, and each cause its answer where memory is left: the words first, then the source, then the grammar, then
     // the sink.
-    ensures answers { (result ≡ 2) ⊎ ((result ≡ 3) ⊎ ((result ≡ 4) ⊎ ((result ≡ 5) ⊎ (result ≡ 8)))) }
+    ensures answers { (result ≡ 0) ⊎ ((result ≡ 2) ⊎ ((result ≡ 3) ⊎ ((result ≡ 4) ⊎ ((result ≡ 5) ⊎ (result ≡ 8))))) }
+    ensures done_cause { result ≡ 0
+        → AskToPlay (map string_bytes words.now) × ((script : Script) × TakesScript S.left S.faults source.old source.new script) }
     ensures refused_cause { result ≡ 2 → AreRefused (map string_bytes words.now) }
+    ensures broken_cause { result ≡ 3 → AskToPlay (map string_bytes words.now) × TakesNone S.left S.faults source.old source.new }
+    ensures source_cause { result ≡ 4 → Rose (S.faults source.old) (S.faults source.new) }
+    ensures sink_cause { result ≡ 5 → Rose (K.faults sink.old) (K.faults sink.new) }
     ensures refused_answer { AreRefused (map string_bytes words.now) → ¬ Rose (K.faults sink.old) (K.faults sink.new)
         → (result ≡ 2) ⊎ (result ≡ 8) }
-    ensures source_cause { result ≡ 4 → Rose (S.faults source.old) (S.faults source.new) }
-    ensures broken_cause { result ≡ 3
-        → AskToPlay (map string_bytes words.now) × ((bytes : List ℕ) × TakesInput S.left source.old source.new (2 ^ 24 + 1) bytes) }
-    ensures broken_answer { AskToPlay (map string_bytes words.now)
+    ensures play_answer { AskToPlay (map string_bytes words.now)
         → ¬ Rose (S.faults source.old) (S.faults source.new) → ¬ Rose (K.faults sink.old) (K.faults sink.new)
-        → (result ≡ 3) ⊎ (result ≡ 8) }
-    ensures sink_cause { result ≡ 5 → Rose (K.faults sink.old) (K.faults sink.new) }
-    ensures unfailed { (result ≡ 2) ⊎ (result ≡ 3) → (S.faults source.new ≡ S.faults source.old) × (K.faults sink.new ≡ K.faults sink.old) }
+        → (result ≡ 0) ⊎ ((result ≡ 3) ⊎ (result ≡ 8)) }
+    ensures unfailed { (result ≡ 0) ⊎ ((result ≡ 2) ⊎ (result ≡ 3))
+        → (S.faults source.new ≡ S.faults source.old) × (K.faults sink.new ≡ K.faults sink.old) }
 {
     if is_play(words) {
         play_top(alloc, source, sink, kept)

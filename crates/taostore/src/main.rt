@@ -5,17 +5,21 @@ mod arguments;
 mod commands;
 mod output;
 mod play;
+mod playing;
 mod reading;
 mod standard;
 #[cfg(test)]
 mod tests;
+mod transcript;
 mod writing;
 
 pub use commands::{Kept, taostore};
 pub use output::End;
 pub use play::play_top;
+pub use playing::{Played, play};
 pub use standard::{StdSink, StdSource};
 use std::process::ExitCode;
+pub use transcript::transcript;
 
 fn main(rt: HostRuntime) -> ExitCode {
     let alloc = rt.alloc();

@@ -9,6 +9,8 @@ use tao_base::Sink;
 /// How a call ends where its sink takes all. The number is the exit status.
 #[derive(Clone, Copy, Debug, PartialEq, Eq)]
 pub enum End {
+    /// The whole script was played.
+    Done = 0,
     /// The words ask for nothing that the program does.
     Refused = 2,
     /// The source holds no script that can be read yet.
@@ -35,6 +37,7 @@ impl End {
         ensures { result.now ≡ end_line self }
     {
         match self {
+            End::Done => b"end 0\n",
             End::Refused => b"end 2\n",
             End::Unbuilt => b"end 3 0 Unbuilt\n",
             End::SourceFailed => b"end 4\n",
@@ -47,7 +50,14 @@ impl End {
 pub fn finish<K: Sink>(sink: &mut K, end: End) -> u8
     ensures { Finishes K.put K.faults sink.old sink.new (status_of end) (end_line end) result }
 {
-    match put_all(sink, end.line()) {
+    finish_text(sink, end, end.line())
+}
+
+/// Writes a text that has the end line at its end, and answers the exit status.
+pub fn finish_text<K: Sink>(sink: &mut K, end: End, text: &[u8]) -> u8
+    ensures { Finishes K.put K.faults sink.old sink.new (status_of end) text.now result }
+{
+    match put_all(sink, text) {
         Ok(()) => end.status(),
         Err(_) => SINK_FAILED,
     }

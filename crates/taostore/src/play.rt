@@ -1,20 +1,25 @@
 //! The command `play`, which plays a script.
-ghost use Rattle.std.specs.Prelude.{◌≡◌, ◌⊎◌, ◌^◌, ◌+◌, ℕ, List, IsNone};
+ghost use Rattle.std.specs.Prelude.{◌≡◌, ◌⊎◌, ◌^◌, ◌+◌, None, IsNone, IsSome, IfOk, IfErr};
 ghost use Rattle.tao_base.specs.Causes.{Rose};
-ghost use Rattle.taostore.specs.Input.{TakesInput};
+ghost use Rattle.tao_text.specs.WholeScripts.{IsScript};
+ghost use Rattle.tao_text.specs.declared.script.Script.{Script};
 ghost use Rattle.taostore.specs.Output.{PutsMore};
-ghost use Rattle.taostore.specs.Endings.{EndsAs, PlayEnds, end_line};
+ghost use Rattle.taostore.specs.Endings.{EndsAs, PlayEnds, ScriptEnds, TakesScript, TakesNone, kept_history, end_line};
 
 use crate::commands::Kept;
-use crate::output::{End, finish};
+use crate::output::{End, finish, finish_text};
+use crate::playing::{Played, play};
 use crate::reading::{ReadFault, take_all};
+use crate::transcript::transcript;
 use std::alloc::Global;
-use tao_base::{Sink, Source};
+use tao_base::{NoMemory, Sink, Source};
+use tao_text::{Script, TextKind, read_script};
 
 /// The bytes of the longest script.
 const MAX_SCRIPT: usize = 1 << 24;
 
-/// Takes a script from the source and plays it, and answers the exit status. No script can be read yet.
+/// Takes a script from the source and plays it, writes its transcript, and answers the exit status. The record is kept. Where memory runs
+/// out, the end line is all that is written.
 pub fn play_top<S: Source, K: Sink>(
     alloc: Global,
     source: &mut S,
@@ -23,30 +28,66 @@ pub fn play_top<S: Source, K: Sink>(
 ) -> u8
     requires { IsNone kept.old.history }
 
-    ensures ending { EndsAs K.put K.faults sink.old sink.new (PlayEnds S.left S.faults source.old source.new) result }
+    ensures ending { EndsAs K.put K.faults sink.old sink.new (PlayEnds S.left S.faults source.old source.new (kept_history kept.new.history)) result }
     ensures front { PutsMore K.put sink.old sink.new }
-    ensures kept { IsNone kept.new.history }
 
     // Each answer has its cause, and each cause its answer where memory is left: the source first, then the grammar, then the sink.
-    ensures answers { (result ≡ 3) ⊎ ((result ≡ 4) ⊎ ((result ≡ 5) ⊎ (result ≡ 8))) }
+    ensures answers { (result ≡ 0) ⊎ ((result ≡ 3) ⊎ ((result ≡ 4) ⊎ ((result ≡ 5) ⊎ (result ≡ 8)))) }
+    ensures done_cause { result ≡ 0 → (script : Script) × TakesScript S.left S.faults source.old source.new script }
+    ensures broken_cause { result ≡ 3 → TakesNone S.left S.faults source.old source.new }
     ensures source_cause { result ≡ 4 → Rose (S.faults source.old) (S.faults source.new) }
-    ensures broken_cause { result ≡ 3 → (bytes : List ℕ) × TakesInput S.left source.old source.new (2 ^ 24 + 1) bytes }
-    ensures broken_answer { ¬ Rose (S.faults source.old) (S.faults source.new) → ¬ Rose (K.faults sink.old) (K.faults sink.new)
-        → (result ≡ 3) ⊎ (result ≡ 8) }
     ensures sink_cause { result ≡ 5 → Rose (K.faults sink.old) (K.faults sink.new) }
-    ensures unfailed { result ≡ 3 → (S.faults source.new ≡ S.faults source.old) × (K.faults sink.new ≡ K.faults sink.old) }
+    ensures answer { ¬ Rose (S.faults source.old) (S.faults source.new) → ¬ Rose (K.faults sink.old) (K.faults sink.new)
+        → (result ≡ 0) ⊎ ((result ≡ 3) ⊎ (result ≡ 8)) }
+    ensures unfailed { (result ≡ 0) ⊎ (result ≡ 3) → (S.faults source.new ≡ S.faults source.old) × (K.faults sink.new ≡ K.faults sink.old) }
 {
-    let end = end_of_play(alloc, source);
-    finish(sink, end)
+    match take_script(alloc, source) {
+        Ok(script) => play_script(alloc, script, sink, kept),
+        Err(end) => finish(sink, end),
+    }
 }
 
-// What a play comes to. No script can be read yet, so every text is refused.
-fn end_of_play<S: Source>(alloc: Global, source: &mut S) -> End
-    ensures { PlayEnds S.left S.faults source.old source.new result (end_line result) }
+// The script that the source has left.
+fn take_script<S: Source>(alloc: Global, source: &mut S) -> Result<Script, End>
+    ensures taken { IfOk result (TakesScript S.left S.faults source.old source.new) }
+    ensures limits { IfOk result IsScript }
+    ensures tape { IfOk result (λ script. IsSome script.tape) }
+    ensures err { IfErr result (λ end. PlayEnds S.left S.faults source.old source.new None end (end_line end)) }
 {
-    match take_all(alloc, source, MAX_SCRIPT + 1) {
-        Ok(_) => End::Unbuilt,
-        Err(ReadFault::Failed) => End::SourceFailed,
-        Err(ReadFault::NoMemory) => End::NoMemory,
+    let bytes = match take_all(alloc, source, MAX_SCRIPT + 1) {
+        Ok(bytes) => bytes,
+        Err(ReadFault::Failed) => return Err(End::SourceFailed),
+        Err(ReadFault::NoMemory) => return Err(End::NoMemory),
+    };
+    match read_script(alloc, bytes.as_slice()) {
+        Ok(script) => Ok(script),
+        Err(fault) => Err(match fault.kind {
+            TextKind::Memory => End::NoMemory,
+            _ => End::Unbuilt,
+        }),
+    }
+}
+
+// Plays a script, keeps its record and writes its transcript.
+fn play_script<K: Sink>(alloc: Global, script: Script, sink: &mut K, kept: &mut Kept) -> u8
+    requires none { IsNone kept.old.history }
+    requires script { IsScript script }
+    requires tape { IsSome script.tape }
+    ensures { EndsAs K.put K.faults sink.old sink.new (ScriptEnds script (kept_history kept.new.history)) result }
+{
+    match play(alloc, script) {
+        Played::Whole(session, blocks) => {
+            let text = transcript(alloc, &session, blocks.as_slice());
+            kept.history = Some(session);
+            match text {
+                Ok(text) => finish_text(sink, End::Done, text.as_slice()),
+                Err(NoMemory) => finish(sink, End::NoMemory),
+            }
+        }
+        Played::Part(session) => {
+            kept.history = Some(session);
+            finish(sink, End::NoMemory)
+        }
+        Played::Nothing => finish(sink, End::NoMemory),
     }
 }

@@ -11,6 +11,9 @@ use tao_base::{ByteSink, ByteSource, Failed, Image, NoMemory, Numbers, Sink, Sou
 
 const SCRIPT: &[u8] = b"tree 1 1 4 1 1\ntape 1 0\ndo 0 read 0\n";
 
+const ONE_READ: &str =
+    "tree 1 1 4 1 1\nload 3\narrive 0 0 read 0\nfetch 0 1\ndone 0\nreply 0 0 00000000\nstore 1 4 1 3\nack 1\nscan\nblock 0 00000000\nend 0\n";
+
 fn words_of(alloc: Global, line: &str) -> Result<Vec<String>, AllocError> {
     let mut words = Vec::new(alloc);
     for word in line.split_whitespace() {
@@ -95,11 +98,11 @@ static FAULTS: [(&str, &[u32], &[u32], usize, u8, &str); 13] = [
     ("--help", &[], &[], 99, 2, "end 2\n"),
     ("paly", &[], &[0], 99, 5, ""),
     ("paly", &[], &[], 3, 5, "end"),
-    ("play", &[], &[], 99, 3, "end 3 0 Unbuilt\n"),
+    ("play", &[], &[], 999, 0, ONE_READ),
     ("play", &[0], &[], 99, 4, "end 4\n"),
     ("play", &[1], &[], 99, 4, "end 4\n"),
     ("play", &[], &[0], 99, 5, ""),
-    ("play", &[], &[], 15, 5, "end 3 0 Unbuilt"),
+    ("play", &[], &[], 15, 5, "tree 1 1 4 1 1\n"),
     ("play", &[1], &[0], 99, 5, ""),
     ("play", &[0], &[], 4, 5, "end "),
 ];
@@ -120,13 +123,112 @@ fn one_byte_at_a_time(rt: HostRuntime) -> Result<(), Fail> {
     let bytes = source_of(alloc, Image::from_slice(alloc, SCRIPT)?, &[])?;
     let mut source = SlowSource { bytes };
     let mut sink = SlowSink {
-        bytes: sink_of(alloc, 99, &[])?,
+        bytes: sink_of(alloc, 999, &[])?,
     };
     let mut kept = Kept { history: None };
     let status = play_top(alloc, &mut source, &mut sink, &mut kept);
-    assert_eq!(rt; status, 3);
-    assert_eq!(rt; sink.bytes.bytes(), b"end 3 0 Unbuilt\n".as_slice());
+    assert_eq!(rt; (status, kept.history.is_some()), (0, true));
+    assert_eq!(rt; sink.bytes.bytes(), ONE_READ.as_bytes());
     assert_eq!(rt; source.read(&mut [0u8; 9]).ok(), Some(0));
+    Ok(())
+}
+
+// The program on this script, with so much room in the sink.
+fn played(alloc: Global, script: Image, room: usize) -> Result<(u8, ByteSink), NoMemory> {
+    let mut source = source_of(alloc, script, &[])?;
+    let mut sink = sink_of(alloc, room, &[])?;
+    let mut kept = Kept { history: None };
+    let status = play_top(alloc, &mut source, &mut sink, &mut kept);
+    Ok((status, sink))
+}
+
+// scripts and their transcripts
+static PLAYS: [(&str, &str); 5] = [
+    ("tree 1 1 4 1 1\ntape 1 0\ndo 0 read 0\n", ONE_READ),
+    (
+        "tree 1 1 4 1 1\ntape 0\n",
+        "tree 1 1 4 1 1\nload 3\nscan\nblock 0 00000000\nend 0\n",
+    ),
+    (
+        "tree 2 2 4 2 1\ntape 0 3 2 1 2\nload 0 61616161\ndo 0 read 0\ndo 0 write 0 62626262\ndo 1 read 0\n",
+        "tree 2 2 4 2 1\nfirst 0 61616161\nload 7\narrive 0 0 read 0\nfetch 0 0\ndone 0\nreply 0 0 61616161\nstore 1 8 1 2 4\nack 1\narrive 1 0 write 0 62626262\nfetch 1 2\ndone 1\nreply 1 0 61616161\nstore 2 11 1 3 6\nack 2\narrive 2 1 read 0\nfetch 2 1\ndone 2\nreply 2 1 62626262\nstore 3 14 1 2 5\nack 3\nscan\nblock 0 62626262\nblock 1 00000000\nend 0\n",
+    ),
+    (
+        "tree 2 1 4 4 1\ntape 0 0 0 0 3\ndo 0 read 3\n",
+        "tree 2 1 4 4 1\nload 7\narrive 0 0 read 3\nfetch 0 0\ndone 0\nreply 0 0 00000000\nstore 1 8 1 2 4\nack 1\nscan\nblock 0 00000000\nblock 1 00000000\nblock 2 00000000\nblock 3 00000000\nend 0\n",
+    ),
+    (
+        "tree 2 1 4 1 1\ntape 4294967295 0\ndo 0 read 0\n",
+        "tree 2 1 4 1 1\nload 7\narrive 0 0 read 0\nfetch 0 3\ndone 0\nreply 0 0 00000000\nstore 1 8 1 3 7\nack 1\nscan\nblock 0 00000000\nend 0\n",
+    ),
+];
+
+#[test]
+fn transcripts(rt: HostRuntime) -> Result<(), Fail> {
+    for (script, text) in &PLAYS {
+        let bytes = Image::from_slice(rt.alloc(), script.as_bytes())?;
+        let (status, sink) = played(rt.alloc(), bytes, 999)?;
+        assert_eq!(rt; (status, sink.bytes()), (0, text.as_bytes()), "at {script}");
+    }
+    Ok(())
+}
+
+// texts that are no script by now
+static REFUSED: [&str; 17] = [
+    "",
+    "tree 1 1 4 1 1\ntape 0",
+    "tree 1 1 4 1  1\ntape 0\n",
+    "tree 1 1 4\t1 1\ntape 0\n",
+    "tree 1 1 4 1 1\r\ntape 0\n",
+    "tree 1 1 4 1 1\ntape 4294967296\n",
+    "tree 1 1 4 1 1\ntape 00\n",
+    "tree 1 1 4 1 1\ntape 0\nload 0 616161616\n",
+    "tree 1 1 4 1 1\ntape 0\nload 0 616161\n",
+    "tree 1 1 4 1 1\ntape 0\nload 1 61616161\n",
+    "tree 1 1 4 2 1\ntape 0 0\nload 1 61616161\nload 0 61616161\n",
+    "tree 1 1 4 1 1\ntape 0\ndo 0 read 0\n",
+    "tree 1 1 4 1 2\ntape 0\n",
+    "tree 1 1 4 1 1\n# no tape\ntape 0\n",
+    "tree 1 1 4 1 1\n\ntape 0\n",
+    "tree 1 1 4 1 1\ntape 0 0\ndo 64 read 0\n",
+    "tree 1 1 4 1 1\ntape 0 0\na 0 read 0\n",
+];
+
+#[test]
+fn no_scripts(rt: HostRuntime) -> Result<(), Fail> {
+    for text in &REFUSED {
+        let bytes = Image::from_slice(rt.alloc(), text.as_bytes())?;
+        let (status, sink) = played(rt.alloc(), bytes, 999)?;
+        assert_eq!(rt;
+            (status, sink.bytes()),
+            (3, b"end 3 0 Unbuilt\n".as_slice()),
+            "at {text}"
+        );
+    }
+    Ok(())
+}
+
+// a script of so many reads
+fn reads(alloc: Global, count: usize) -> Result<Image, NoMemory> {
+    let mut text = Image::from_slice(alloc, b"tree 1 1 4 1 1\ntape 0")?;
+    for _ in 0..count {
+        text.extend_from_slice(b" 0")?;
+    }
+    text.extend_from_slice(b"\n")?;
+    for _ in 0..count {
+        text.extend_from_slice(b"do 0 read 0\n")?;
+    }
+    Ok(text)
+}
+
+// as many operations as a session of these parameters may have, and one more
+#[test]
+fn longest_session(rt: HostRuntime) -> Result<(), Fail> {
+    for (count, status) in [(65_536, 0), (65_537, 3)] {
+        let script = reads(rt.alloc(), count)?;
+        let (answer, _) = played(rt.alloc(), script, 1 << 24)?;
+        assert_eq!(rt; answer, status, "at {count}");
+    }
     Ok(())
 }
 

@@ -1,0 +1,9 @@
+pub mod Fits
+pub mod Following
+pub mod Kept
+pub mod LastOn
+pub mod Ranges
+pub mod Starts
+pub mod Steps
+pub mod Texts
+pub mod WholeText

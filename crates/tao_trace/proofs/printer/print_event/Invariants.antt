@@ -1,0 +1,10 @@
+use Rattle.std.proofs.Common.{◌≡◌}
+use Rattle.tao_trace.specs.Printing.{PrinterState}
+use Rattle.tao_trace.proofs.printer.print_event.Given as goal
+
+pub record IsPassed (l : goal.Live-loop) : Type 0 where
+  pub history : l.printer.history ≡ l.history.history
+  pub place : l.printer.place ≡ l.counter
+
+abbrev pub invariant-loop : goal.invariant-loop
+invariant-loop l = IsPassed l

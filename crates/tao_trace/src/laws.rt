@@ -1,0 +1,12 @@
+//! Laws: the lines that are printed one after another are the transcript.
+ghost use Rattle.tao_trace.specs.Printing.{LinesGoOn, TextIsPrinted};
+
+/// One event more has its lines behind those of the events before.
+pub fn lines_go_on()
+    ensures { LinesGoOn }
+{}
+
+/// The opening, the lines of all events and the close are the transcript of a record whose stores weren't sent again.
+pub fn text_is_printed()
+    ensures { TextIsPrinted }
+{}

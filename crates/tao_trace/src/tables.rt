@@ -1,0 +1,216 @@
+//! What is kept of the events that were printed: of each arrival and of each block.
+ghost use Rattle.std.specs.Prelude.{◌≡◌, ◌+◌, ◌-◌, ◌<◌, ◌≤◌, ◌%◌, ◌^◌, ◌↔◌, false, true, [], ◌∷◌, ◌++◌, length, reverse, slice_index, Some, None, OnOk, OnErr, IfOk, get_or};
+ghost use Rattle.std.specs.List.{slice_index_or};
+ghost use Rattle.std.specs.Option.{option_map};
+ghost use Rattle.tao_base.specs.declared.calls.Op.TheVariants.{Read};
+ghost use Rattle.tao_base.specs.Array.{block_at};
+ghost use Rattle.tao_base.specs.Limits.{IsShape};
+ghost use Rattle.tao_base.specs.Tree.{leaf_of};
+ghost use Rattle.tao_base.specs.declared.session.Event.TheVariants.{Arrive, Done};
+ghost use Rattle.tao_model.specs.Events.{arrived, is_done, word_at};
+ghost use Rattle.tao_model.specs.Requests.{real_now, next_word};
+ghost use Rattle.tao_model.specs.Replies.{array_now, released};
+ghost use Rattle.tao_model.specs.Lawful.{FollowsLawfully, IsInRange};
+ghost use Rattle.tao_trace.specs.Printing.{events_before};
+ghost use Rattle.tao_trace.specs.Tables.{IsAt, AreFirst, Stays, GoesOn, NextOf, AreMoved, NamesBelow, word_fetched, reply_for};
+
+use std::alloc::Global;
+use tao_base::{Block, NoMemory, Op};
+use tao_record::Record;
+
+/// An arrival: who made it, its own word, whether its path was taken in, and what it is answered, where it is no pad.
+#[derive(Clone, Copy, Debug)]
+pub(crate) struct Told<'a> {
+    pub(crate) client: u32,
+    pub(crate) word: u32,
+    pub(crate) done: bool,
+    pub(crate) reply: Option<&'a Block>,
+}
+
+/// A block: its last real arrival, and its value after all arrivals.
+#[derive(Clone, Copy, Debug)]
+pub(crate) struct Slot<'a> {
+    pub(crate) last: Option<usize>,
+    pub(crate) value: &'a Block,
+}
+
+/// What is kept of the events before a place of the record.
+#[derive(Debug, Drop)]
+pub(crate) struct Tables<'a> {
+    pub(crate) history: &'a Record,
+    pub(crate) place: usize,
+    pub(crate) told: Vec<Told<'a>>,
+    pub(crate) slots: Vec<Slot<'a>>,
+    pub(crate) released: usize,
+}
+
+impl<'a> Tables<'a> {
+    /// Before the first event.
+    pub(crate) fn new(alloc: Global, history: &'a Record) -> Result<Tables<'a>, NoMemory>
+        requires { FollowsLawfully history.now.history.opening (reverse history.now.history.events) }
+        ensures fits { IfOk result IsAt }
+        ensures history { IfOk result (λ t. t.history.now ≡ history.now) }
+        ensures place { IfOk result (λ t. t.place ≡ 0) }
+    {
+        Ok(Tables {
+            history,
+            place: 0,
+            told: Vec::new(alloc),
+            slots: first_slots(alloc, history.first())?,
+            released: 0,
+        })
+    }
+
+    /// How many events come.
+    pub(crate) fn left(&self) -> usize
+        requires { IsAt self.now }
+        ensures { result ≡ length self.now.history.now.history.events - self.now.place }
+    {
+        self.history.events().len() - self.place
+    }
+
+    /// Whether no real arrival on the block is under way.
+    fn is_free(&self, block: usize) -> bool
+        requires tables { IsAt self.now }
+        requires block { block < self.now.history.now.history.opening.shape.n }
+        ensures { result ≡ real_now (events_before self.now.history.now.history self.now.place) (Read block) }
+    {
+        match self.slots[block].last {
+            Some(arrival) => self.told[arrival].done,
+            None => true,
+        }
+    }
+
+    /// The word that the next real arrival on the block uses.
+    fn next_word(&self, block: usize) -> u32
+        requires tables { IsAt self.now }
+        requires block { block < self.now.history.now.history.opening.shape.n }
+        ensures { result ≡ word_at self.now.history.now.history.opening (events_before self.now.history.now.history self.now.place) (next_word self.now.history.now.history.opening (events_before self.now.history.now.history self.now.place) block) }
+    {
+        match self.slots[block].last {
+            Some(arrival) => self.told[arrival].word,
+            None => first_word(self.history.words(), block),
+        }
+    }
+
+    /// Whether an arrival of this operation is real.
+    fn is_real(&self, op: &Op) -> bool
+        requires tables { IsAt self.now }
+        requires range { IsInRange self.now.history.now.history.opening.shape op.now }
+        ensures { result ≡ real_now (events_before self.now.history.now.history self.now.place) op.now }
+    {
+        match op {
+            Op::Read(id) | Op::Write(id, _) => self.is_free(*id as usize),
+            Op::Pad => false,
+        }
+    }
+
+    fn word_on(&self, block: usize, word: u32) -> u32
+        requires tables { IsAt self.now }
+        requires block { block < self.now.history.now.history.opening.shape.n }
+        ensures { result ≡ word_fetched self.now.history.now.history.opening (events_before self.now.history.now.history self.now.place) (Read block) word }
+    {
+        if self.is_free(block) {
+            self.next_word(block)
+        } else {
+            word
+        }
+    }
+
+    /// The leaf that an arrival of this operation fetches.
+    pub(crate) fn leaf_for(&self, op: &Op, word: u32) -> u32
+        requires tables { IsAt self.now }
+        requires range { IsInRange self.now.history.now.history.opening.shape op.now }
+        ensures { result ≡ leaf_of self.now.history.now.history.opening.shape.l (word_fetched self.now.history.now.history.opening (events_before self.now.history.now.history self.now.place) op.now word) }
+    {
+        let word = match op {
+            Op::Read(id) | Op::Write(id, _) => self.word_on(*id as usize, word),
+            Op::Pad => word,
+        };
+        word % (1 << self.history.params().l())
+    }
+
+    /// What an arrival of this operation is answered.
+    fn reply_to(&self, op: &Op) -> Option<&'a Block>
+        requires tables { IsAt self.now }
+        requires range { IsInRange self.now.history.now.history.opening.shape op.now }
+        ensures { option_map (λ value. value.now) result ≡ reply_for (array_now self.now.history.now.history.opening (events_before self.now.history.now.history self.now.place)) op.now }
+    {
+        match op {
+            Op::Read(id) | Op::Write(id, _) => Some(self.slots[*id as usize].value),
+            Op::Pad => None,
+        }
+    }
+
+    /// Keeps an arrival.
+    pub(crate) fn add_arrival(&mut self, client: u32, op: &'a Op, word: u32) -> Result<(), NoMemory>
+        requires tables { IsAt self.old }
+        requires next { NextOf self.old (Arrive client op.now word) }
+        requires range { IsInRange self.old.history.now.history.opening.shape op.now }
+        ensures ok { OnOk result (GoesOn self.old self.new) }
+        ensures err { OnErr result (Stays self.old self.new) }
+    {
+        let arrival = self.told.len();
+        let real = self.is_real(op);
+        let reply = self.reply_to(op);
+        self.told.push(Told {
+            client,
+            word,
+            done: false,
+            reply,
+        })?;
+        move_slot(&mut self.slots, op, arrival, real);
+        self.place = self.next_place();
+        Ok(())
+    }
+
+    /// The place behind the next event.
+    pub(crate) fn next_place(&self) -> usize
+        requires { self.now.place < length self.now.history.now.history.events }
+        ensures { result ≡ self.now.place + 1 }
+    {
+        let _all = self.history.events().len();
+        self.place + 1
+    }
+}
+
+fn first_word(words: &[u32], block: usize) -> u32
+    requires { block < length words.now }
+    ensures { result ≡ slice_index words.now block }
+{
+    words[block]
+}
+
+// The blocks before the first event.
+fn first_slots<'a>(alloc: Global, first: &'a [Block]) -> Result<Vec<Slot<'a>>, NoMemory>
+    ensures { IfOk result (λ slots. AreFirst first.now slots.items) }
+{
+    let mut slots = Vec::with_capacity(alloc, first.len())?;
+    for value in first {
+        slots.push(Slot { last: None, value })?;
+    }
+    Ok(slots)
+}
+
+// What a new arrival makes of its block.
+fn move_slot<'a>(slots: &mut Vec<Slot<'a>>, op: &'a Op, arrival: usize, real: bool)
+    requires range { NamesBelow (length slots.old.items) op.now }
+    ensures len { length slots.new.items ≡ length slots.old.items }
+    ensures moved { AreMoved op.now arrival real slots.old.items slots.new.items }
+{
+    match op {
+        Op::Read(id) => {
+            if real {
+                slots[*id as usize].last = Some(arrival);
+            }
+        }
+        Op::Write(id, value) => {
+            let slot = &mut slots[*id as usize];
+            slot.value = value;
+            if real {
+                slot.last = Some(arrival);
+            }
+        }
+        Op::Pad => {}
+    }
+}

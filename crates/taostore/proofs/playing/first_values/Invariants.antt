@@ -1,0 +1,7 @@
+use Rattle.std.proofs.Common.{◌≡◌, All, length, take, replicate, fold}
+use Rattle.taostore.specs.Playing.{put_load}
+use Rattle.taostore.proofs.playing.first_values.Given as goal
+
+abbrev pub invariant-loop-entry : goal.invariant-loop-entry
+invariant-loop-entry l =
+    (l.blocks ≡ fold put_load (replicate l.p.n (replicate l.p.b 0)) (take l.entry-index l.loads)) × ((length l.blocks ≡ l.p.n) × All (λ value. length value ≡ l.p.b) l.blocks)
