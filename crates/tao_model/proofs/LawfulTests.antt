@@ -17,8 +17,8 @@ use Rattle.tao_model.specs.Residence.{newest_version}
 use Rattle.tao_model.specs.Trace.{nodes_in}
 use Rattle.tao_model.specs.Placement.{Rises}
 use Rattle.tao_model.specs.Lawful.{IsInForm, IsInRange, IsOpening, MayFollow, FollowsLawfully, OwesNone, IsLawful, away_on_path, touched_after}
-use Rattle.tao_model.specs.Evictions.{opening_load}
-use Rattle.tao_model.proofs.OneLoad.{opens_so}
+use Rattle.tao_model.specs.Openings.{opening_load}
+use Rattle.tao_model.proofs.LoadedOpenings.{opens_so}
 
 all_by : {X : Type 0} (test : X → Bool) (P : X → Type 0) → ((x : X) → test x ≡ true → P x) → (xs : List X) → list_all test xs ≡ true → All P xs
 all_by test P sound [] h = All-nil P

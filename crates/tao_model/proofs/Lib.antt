@@ -7,6 +7,7 @@ pub mod Growth
 pub mod LastReal
 pub mod LawfulTests
 pub mod LawfulToWhole
+pub mod LoadedOpenings
 pub mod NewestWrites
 pub mod NodeByNode
 pub mod OneEviction

@@ -1,22 +1,16 @@
 -- There is exactly one load.
-use Rattle.std.proofs.Common.{◌≡◌, ℕ, zero, suc, ◌+◌, ◌<◌, ◌≤◌, true, ◌&&◌, not, cond, List, [], ◌∷◌, map, length, All, Some, None, refl, sym, ap, ◌∙◌, subst, arith, inl, inr, ◌⊎◌, nat_lt}
+use Rattle.std.proofs.Common.{◌≡◌, ℕ, zero, suc, ◌+◌, ◌<◌, ◌≤◌, true, ◌&&◌, not, cond, List, [], map, Some, None, refl, sym, ap, ◌∙◌, arith, inl, inr, ◌⊎◌, nat_lt}
 use Rattle.std.specs.List.{range_with_len}
-use Rattle.std.proofs.lemmas.Bool.{ne_eqb, eq-eqb, cases_lt, cases_eq, cases_order, and_parts, ltb-true, lt-ltb, le-ltb}
-use Rattle.std.proofs.lemmas.Option.{cond_some}
-use Rattle.std.proofs.lemmas.List.Elements.{All-head, All-tail, All-nil, All-cons, All-weaker}
+use Rattle.std.proofs.lemmas.Bool.{ne_eqb, eq-eqb, cases_lt, cases_eq, cases_order, and_parts, lt-ltb, le-ltb}
 use Rattle.tao_base.specs.declared.storage.Entry.{Entry}
-use Rattle.tao_base.specs.declared.storage.Bucket.{Bucket}
 use Rattle.tao_base.specs.Limits.{Shape}
 use Rattle.tao_base.specs.Array.{block_at}
 use Rattle.tao_base.specs.Tree.{node_count, is_on_path}
 use Rattle.tao_model.specs.Placement.{Rises, look, IsPlaced, may_load, block_below, with_stash, entries_at}
-use Rattle.tao_model.specs.Trace.{nodes_in}
-use Rattle.tao_model.specs.Requests.{leaf_at}
-use Rattle.tao_model.specs.Lawful.{IsInForm, OpensWithLoad}
-use Rattle.tao_model.specs.Evictions.{LoadGathers, LoadIsPlaced, OneLoad, OneOpening, OpensSo, block_entry, block_entries, load_contents, first_bucket, load_buckets}
+use Rattle.tao_model.specs.Evictions.{LoadGathers, LoadIsPlaced, OneLoad, block_entry, block_entries, load_contents, first_bucket, load_buckets}
 use Rattle.tao_model.proofs.OnePlacement.{one_placement, placed_alike}
 use Rattle.tao_model.proofs.OnePass.{pass_places}
-use Rattle.tao_model.proofs.PlacedEntries.{entries_are_gathered, none_lie}
+use Rattle.tao_model.proofs.PlacedEntries.{none_lie}
 
 listed_look : (blocks : List (List ℕ)) (n a b : ℕ) → a ≤ b → look b (map (block_entry blocks) (range_with_len a n)) ≡ cond (nat_lt b (a + n)) (Some (block_at blocks b)) None
 listed_look blocks zero a b h = rw (le-ltb b (a + 0) (omega arith)) refl
@@ -38,7 +32,7 @@ load_gathers s leaf blocks = record {
   among = λ b w may_lie. rw ((and_parts (nat_lt b s.n) (is_on_path s.l (leaf b) w) may_lie).0) refl;
 }
 
-load_pass : (s : Shape) (leaf : ℕ → ℕ) (blocks : List (List ℕ)) → IsPlaced (may_load s leaf) (node_count s.l) s.z (block_below s.n blocks) (load_contents s leaf blocks)
+pub load_pass : (s : Shape) (leaf : ℕ → ℕ) (blocks : List (List ℕ)) → IsPlaced (may_load s leaf) (node_count s.l) s.z (block_below s.n blocks) (load_contents s leaf blocks)
 load_pass s leaf blocks = pass_places (may_load s leaf) (node_count s.l) s.z (block_below s.n blocks) (block_entries s.n blocks) (load_gathers s leaf blocks)
 
 -- the entries at the nodes of buckets that are listed for a range of nodes
@@ -92,91 +86,3 @@ pub one_load : OneLoad
 one_load s leaf blocks loaded (stash, q) w node =
     sym (rw (ne_eqb w 0 (λ same. omega arith)) refl)
     ∙ one_placement (may_load s leaf) (node_count s.l) s.z (block_below s.n blocks) (with_stash stash (entries_at loaded)) (load_contents s leaf blocks) q (load_pass s leaf blocks) w
-
-abbrev bucket_of_parts : ℕ → ℕ → ℕ → List Entry → Bucket
-bucket_of_parts node version nonce entries = record { node = node; version = version; nonce = nonce; entries = entries }
-
-same_bucket : (x : Bucket) (w : ℕ) (contents : ℕ → List Entry) → x.node ≡ w → x.version ≡ 0 → x.nonce ≡ w → x.entries ≡ contents w → x ≡ first_bucket contents w
-same_bucket x w contents node version nonce entries =
-    ap (λ n. bucket_of_parts n x.version x.nonce x.entries) node ∙ ap (λ v. bucket_of_parts w v x.nonce x.entries) version
-    ∙ ap (λ n. bucket_of_parts w 0 n x.entries) nonce ∙ ap (λ es. bucket_of_parts w 0 w es) entries
-
-cons_parts : {X : Type 0} (x y : X) (xs ys : List X) → x ∷ xs ≡ y ∷ ys → (x ≡ y) × (xs ≡ ys)
-cons_parts x y xs ys h = (cc, cc)
-
-nil_cons : {X : Type 0} (x : X) (xs : List X) → [] ≡ x ∷ xs → ⊥
-nil_cons x xs h = cc
-
-numbered_same : (bs : List Bucket) (contents : ℕ → List Entry) (n a : ℕ) → nodes_in bs ≡ range_with_len a n → All (λ bucket. bucket.version ≡ 0) bs
-    → map (λ bucket. bucket.nonce) bs ≡ range_with_len a n → ((w : ℕ) → a ≤ w → entries_at bs w ≡ contents w) → bs ≡ map (first_bucket contents) (range_with_len a n)
-numbered_same [] contents zero a nodes versions nonces entries = refl
-numbered_same [] contents (suc n) a nodes versions nonces entries = absurd (nil_cons a (range_with_len (a + 1) n) nodes)
-numbered_same (x ∷ xs) contents zero a nodes versions nonces entries = absurd (nil_cons x.node (nodes_in xs) (sym nodes))
-numbered_same (x ∷ xs) contents (suc n) a nodes versions nonces entries =
-    let at = cons_parts x.node a (nodes_in xs) (range_with_len (a + 1) n) nodes in
-    let count = cons_parts x.nonce a (map (λ bucket. bucket.nonce) xs) (range_with_len (a + 1) n) nonces in
-    let here : x.entries ≡ contents a = sym (rw (eq-eqb x.node a at.0) refl) ∙ entries a (omega arith) in
-    let rest : xs ≡ map (first_bucket contents) (range_with_len (a + 1) n) =
-    numbered_same xs contents n (a + 1) at.1 (All-tail (λ bucket. bucket.version ≡ 0) x xs versions) count.1
-    (λ w later. sym (rw (ne_eqb x.node w (λ same. let is = at.0 in omega arith)) refl) ∙ entries w (omega arith)) in
-    ap (λ b. b ∷ xs) (same_bucket x a contents at.0 (All-head (λ bucket. bucket.version ≡ 0) x xs versions) count.0 here) ∙ ap (λ l. first_bucket contents a ∷ l) rest
-
-pub one_opening : OneOpening
-one_opening o opens = numbered_same o.loaded (load_contents o.shape (λ block. leaf_at o [] block) o.first) (node_count o.shape.l) 1
-    opens.numbered.nodes opens.numbered.versions opens.numbered.nonces
-    (λ w node. one_load o.shape (λ block. leaf_at o [] block) o.first o.loaded opens.placed w (omega arith))
-
-listed_nodes : (contents : ℕ → List Entry) (n a : ℕ) → nodes_in (map (first_bucket contents) (range_with_len a n)) ≡ range_with_len a n
-listed_nodes contents zero a = refl
-listed_nodes contents (suc n) a = ap (λ l. a ∷ l) (listed_nodes contents n (a + 1))
-
-listed_versions : (contents : ℕ → List Entry) (n a : ℕ) → All (λ bucket. bucket.version ≡ 0) (map (first_bucket contents) (range_with_len a n))
-listed_versions contents zero a = All-nil (λ bucket. bucket.version ≡ 0)
-listed_versions contents (suc n) a =
-    All-cons (λ bucket. bucket.version ≡ 0) (first_bucket contents a) (map (first_bucket contents) (range_with_len (a + 1) n)) refl (listed_versions contents n (a + 1))
-
-listed_nonces : (contents : ℕ → List Entry) (n a : ℕ) → map (λ bucket. bucket.nonce) (map (first_bucket contents) (range_with_len a n)) ≡ range_with_len a n
-listed_nonces contents zero a = refl
-listed_nonces contents (suc n) a = ap (λ l. a ∷ l) (listed_nonces contents n (a + 1))
-
-listed_all : (P : Bucket → Type 0) (contents : ℕ → List Entry) (n a : ℕ) → ((w : ℕ) → a ≤ w → w < a + n → P (first_bucket contents w))
-    → All P (map (first_bucket contents) (range_with_len a n))
-listed_all P contents zero a h = All-nil P
-listed_all P contents (suc n) a h = All-cons P (first_bucket contents a) (map (first_bucket contents) (range_with_len (a + 1) n)) (h a (omega arith) (omega arith))
-    (listed_all P contents n (a + 1) (λ w low high. h w (omega arith) (omega arith)))
-
-pub opens_so : OpensSo
-opens_so o is same = subst (λ loaded. OpensWithLoad (record { shape = o.shape; words = o.words; first = o.first; loaded = loaded })) (sym same) (record {
-  numbered = record {
-    nodes = listed_nodes contents (node_count o.shape.l) 1;
-    versions = listed_versions contents (node_count o.shape.l) 1;
-    nonces = listed_nonces contents (node_count o.shape.l) 1;
-  };
-  in_form = listed_all (IsInForm o.shape) contents (node_count o.shape.l) 1 (λ w low high. in_form w low (omega arith));
-  placed = load_is_placed o.shape (λ block. leaf_at o [] block) o.first;
-})
-  where
-    contents : ℕ → List Entry
-    contents = load_contents o.shape (λ block. leaf_at o [] block) o.first
-
-    p : IsPlaced (may_load o.shape (λ block. leaf_at o [] block)) (node_count o.shape.l) o.shape.z (block_below o.shape.n o.first) contents
-    p = load_pass o.shape (λ block. leaf_at o [] block) o.first
-
-    found : (w : ℕ) → All (λ entry. block_below o.shape.n o.first entry.id ≡ Some entry.value) (contents w)
-    found w = entries_are_gathered (may_load o.shape (λ block. leaf_at o [] block)) (node_count o.shape.l) o.shape.z (block_below o.shape.n o.first) contents p w
-
-    in_form : (w : ℕ) → 1 ≤ w → w ≤ node_count o.shape.l → IsInForm o.shape (first_bucket contents w)
-    in_form w low high = record {
-      low = low;
-      high = high;
-      few = p.room w (omega arith);
-      rising = p.rises w;
-      ids = All-weaker (λ entry. block_below o.shape.n o.first entry.id ≡ Some entry.value) (λ entry. entry.id < o.shape.n)
-          (λ entry is_block. ltb-true entry.id o.shape.n (cond_some (nat_lt entry.id o.shape.n) (block_at o.first entry.id) entry.value is_block).0) (contents w) (found w);
-      values = All-weaker (λ entry. block_below o.shape.n o.first entry.id ≡ Some entry.value) (λ entry. length entry.value ≡ o.shape.b)
-          (λ entry is_block.
-          let parts = cond_some (nat_lt entry.id o.shape.n) (block_at o.first entry.id) entry.value is_block in
-          let below = ltb-true entry.id o.shape.n parts.0 in
-          let all = is.blocks in
-          ap length (sym parts.1) ∙ is.values entry.id [] (omega arith)) (contents w) (found w);
-    }

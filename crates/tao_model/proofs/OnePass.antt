@@ -7,7 +7,8 @@ use Rattle.std.proofs.lemmas.List.Elements.{All-push, All-weaker}
 use Rattle.tao_base.specs.declared.storage.Entry.{Entry}
 use Rattle.tao_model.specs.Placement.{Rises, look, IsPlaced}
 use Rattle.tao_model.specs.Passes.{deepest, spot, put_at, put_next}
-use Rattle.tao_model.specs.PlacementLaws.{PassPlaces}
+use Rattle.tao_model.specs.PlacementLaws.{PassPlaces, PassMore, SpotAlike}
+use Rattle.std.proofs.lemmas.List.Sums.{fold_more}
 use Rattle.tao_model.proofs.RisingEntries.{Below, look_here, look_on, look_low, look_past, look_append, rises_push}
 use Rattle.tao_model.proofs.GreatestNumbers.{greatest_step, greatest_none}
 use Rattle.tao_model.specs.Greatest.{IsGreatest}
@@ -186,3 +187,15 @@ pass_places may m z gathered entries is = pass_from may m z gathered is.among en
   room = λ w h. omega arith;
   full = λ b w h. absurd (omega arith);
 }) is.rises (λ b h. is.looks b)
+
+pub pass_more : PassMore
+pass_more may m z entries i d within = fold_more (put_next may m z) (λ w. []) entries i d within
+
+deepest_same : (p q : ℕ → Bool) (m : ℕ) → ((w : ℕ) → 0 < w → w ≤ m → p w ≡ q w) → deepest p m ≡ deepest q m
+deepest_same p q zero h = refl
+deepest_same p q (suc m) h = rw (h (m + 1) (omega arith) (omega arith)) (ap (λ r. cond (q (m + 1)) (m + 1) r) (deepest_same p q m (λ w some within. h w some (omega arith))))
+
+pub spot_alike : SpotAlike
+spot_alike may m z contents other b h =
+    deepest_same (λ w. may b w && nat_lt (length (contents w)) z) (λ w. may b w && nat_lt (length (other w)) z) m
+    (λ w some within. ap (λ n. may b w && nat_lt n z) (h w some within))

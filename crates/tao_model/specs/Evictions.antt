@@ -1,16 +1,13 @@
 -- The load and the eviction as they are computed, and the laws that there is exactly one of each.
-use Rattle.std.specs.Prelude.{◌≡◌, ℕ, ◌+◌, ◌<◌, ◌≤◌, ◌^◌, ◌⊎◌, ◌==◌, nat_lt, Bool, true, ◌&&◌, if◌then◌else◌, List, [], ◌∷◌, map, reverse, length, Option, Some, None, All}
+use Rattle.std.specs.Prelude.{◌≡◌, ℕ, ◌+◌, ◌<◌, ◌≤◌, ◌^◌, ◌⊎◌, ◌==◌, nat_lt, Bool, true, ◌&&◌, if◌then◌else◌, List, ◌∷◌, map, reverse, length, Option, Some, None, All}
 use Rattle.std.specs.List.{list_any, range_with_len}
 use Rattle.tao_base.specs.declared.storage.Entry.{Entry}
 use Rattle.tao_base.specs.declared.storage.Bucket.{Bucket}
 use Rattle.tao_base.specs.Limits.{Shape}
-use Rattle.tao_base.specs.Session.{Opening}
 use Rattle.tao_base.specs.Array.{block_at}
 use Rattle.tao_base.specs.Tree.{node_count, path, is_on_path}
 use Rattle.tao_model.specs.Placement.{look, IsPlaced, IsLoad, IsEvicted, may_load, may_evict, block_below, first_copy, entries_at}
 use Rattle.tao_model.specs.Passes.{IsGathered, IsRound, Falls, spot, first_passing, one_pass, fill, gathered_from}
-use Rattle.tao_model.specs.Requests.{leaf_at}
-use Rattle.tao_model.specs.Lawful.{IsOpening, OpensWithLoad}
 
 -- each entry of a placement is a gathered block
 abbrev pub EntriesAreGathered : Type 0
@@ -66,19 +63,6 @@ LoadIsPlaced = (s : Shape) (leaf : ℕ → ℕ) (blocks : List (List ℕ)) → I
 abbrev pub OneLoad : Type 0
 OneLoad = (s : Shape) (leaf : ℕ → ℕ) (blocks : List (List ℕ)) (loaded : List Bucket) → IsLoad s leaf blocks loaded
     → (w : ℕ) → 0 < w → entries_at loaded w ≡ load_contents s leaf blocks w
-
-abbrev pub with_loaded : Opening → List Bucket → Opening
-with_loaded o loaded = record { shape = o.shape; words = o.words; first = o.first; loaded = loaded }
-
--- what an opening is loaded with is fixed by its words and blocks
-abbrev pub opening_load : Opening → List Bucket
-opening_load o = load_buckets o.shape (load_contents o.shape (λ block. leaf_at o [] block) o.first)
-
-abbrev pub OneOpening : Type 0
-OneOpening = (o : Opening) → OpensWithLoad o → o.loaded ≡ opening_load o
-
-abbrev pub OpensSo : Type 0
-OpensSo = (o : Opening) → IsOpening o → o.loaded ≡ opening_load o → OpensWithLoad o
 
 -- ---- the eviction
 

@@ -5,6 +5,7 @@ pub mod Greatest
 pub mod Lawful
 pub mod LookBacks
 pub mod OneMore
+pub mod Openings
 pub mod Passes
 pub mod Placement
 pub mod PlacementLaws

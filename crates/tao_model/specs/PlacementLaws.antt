@@ -2,7 +2,7 @@
 use Rattle.std.specs.Prelude.{◌≡◌, ℕ, ◌+◌, ◌<◌, ◌≤◌, ◌⊎◌, Bool, true, List, length, take, filter, slice_index_or, Option, None, is_some, All}
 use Rattle.tao_base.specs.declared.storage.Entry.{Entry}
 use Rattle.tao_model.specs.Placement.{Rises, look, IsPlaced}
-use Rattle.tao_model.specs.Passes.{IsGathered, IsRound, one_pass, hand, hand_out, fill}
+use Rattle.tao_model.specs.Passes.{IsGathered, IsRound, spot, put_next, one_pass, hand, hand_out, fill}
 
 -- at most one: the ids of each node are fixed by those of lower id, so two placements have equal contents at every node and in the stash
 abbrev pub OnePlacement : Type 0
@@ -19,6 +19,16 @@ PlacedAlike = (may may' : ℕ → ℕ → Bool) (m z : ℕ) (gathered gathered' 
 abbrev pub PassPlaces : Type 0
 PassPlaces = (may : ℕ → ℕ → Bool) (m z : ℕ) (gathered : ℕ → Option (List ℕ)) (entries : List Entry)
     → IsGathered may gathered entries → IsPlaced may m z gathered (one_pass may m z entries)
+
+-- one entry more, as at a step of a loop over the entries
+abbrev pub PassMore : Type 0
+PassMore = (may : ℕ → ℕ → Bool) (m z : ℕ) (entries : List Entry) (i : ℕ) (d : Entry) → i < length entries
+    → one_pass may m z (take (i + 1) entries) ≡ put_next may m z (one_pass may m z (take i entries)) (slice_index_or entries i d)
+
+-- where a block goes hangs on how many entries each node has alone
+abbrev pub SpotAlike : Type 0
+SpotAlike = (may : ℕ → ℕ → Bool) (m z : ℕ) (contents other : ℕ → List Entry) (b : ℕ)
+    → ((w : ℕ) → 0 < w → w ≤ m → length (contents w) ≡ length (other w)) → spot may m z contents b ≡ spot may m z other b
 
 -- What a node takes from the stash and what stays: each entry goes one way or stays. The node has z at most, of blocks that may lie there;
 -- where one that may lie there stays, the node has z, all of lower id.

@@ -1,5 +1,5 @@
 //! Laws: there is exactly one load and exactly one eviction.
-ghost use Rattle.tao_model.specs.Evictions.{EntriesAreGathered, PathFalls, SpotIsFirst, LoadSpot, LoadGathers, LoadIsPlaced, OneLoad, OneOpening, OpensSo, EvictionGathers, EvictionRound, EvictionIsPlaced, OneEviction, EvictionFills, FirstCopyStays};
+ghost use Rattle.tao_model.specs.Evictions.{EntriesAreGathered, PathFalls, SpotIsFirst, LoadSpot, LoadGathers, LoadIsPlaced, OneLoad, EvictionGathers, EvictionRound, EvictionIsPlaced, OneEviction, EvictionFills, FirstCopyStays};
 
 /// Each entry of a placement is a gathered block.
 pub fn entries_are_gathered()
@@ -34,16 +34,6 @@ pub fn load_is_placed()
 /// Two loads have the same entries at every node.
 pub fn one_load()
     ensures { OneLoad }
-{}
-
-/// What an opening is loaded with is fixed by its words and blocks.
-pub fn one_opening()
-    ensures { OneOpening }
-{}
-
-/// With the computed tree an opening is loaded as it has to be.
-pub fn opens_so()
-    ensures { OpensSo }
 {}
 
 /// The stash and the path, gathered, are what the eviction places.

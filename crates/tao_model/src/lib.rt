@@ -6,6 +6,7 @@ mod copies;
 mod evictions;
 mod look_backs;
 mod one_more;
+mod openings;
 mod placement;
 mod stability;
 mod trace;
@@ -18,8 +19,8 @@ pub use copies::{
 };
 pub use evictions::{
     entries_are_gathered, eviction_fills, eviction_gathers, eviction_is_placed, eviction_round,
-    first_copy_stays, load_gathers, load_is_placed, load_spot, one_eviction, one_load, one_opening,
-    opens_so, path_falls, spot_is_first,
+    first_copy_stays, load_gathers, load_is_placed, load_spot, one_eviction, one_load, path_falls,
+    spot_is_first,
 };
 pub use look_backs::{
     array_is_fold, fake_fetches_own, last_touch_is_last, newest_is_greatest, ops_arrived,
@@ -29,8 +30,10 @@ pub use look_backs::{
 pub use one_more::{
     one_more_acked, one_more_arrive, one_more_done, one_more_fault, one_more_issue, pads_are_fake,
 };
+pub use openings::{one_opening, opens_so};
 pub use placement::{
-    fill_places, hands_more, hands_out, one_placement, pass_places, placed_alike, takes_lowest,
+    fill_places, hands_more, hands_out, one_placement, pass_more, pass_places, placed_alike,
+    spot_alike, takes_lowest,
 };
 pub use stability::{arrivals_stay, released_grows};
 pub use trace::Request;

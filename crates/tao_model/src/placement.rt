@@ -1,5 +1,5 @@
 //! Laws: there is at most one placement, and two ways to compute it.
-ghost use Rattle.tao_model.specs.PlacementLaws.{OnePlacement, PlacedAlike, PassPlaces, FillPlaces, HandsOut, HandsMore, TakesLowest};
+ghost use Rattle.tao_model.specs.PlacementLaws.{OnePlacement, PlacedAlike, PassPlaces, PassMore, SpotAlike, FillPlaces, HandsOut, HandsMore, TakesLowest};
 
 /// There is at most one placement.
 pub fn one_placement()
@@ -14,6 +14,16 @@ pub fn placed_alike()
 /// One pass in rising id, each block into the greatest node with room, is a placement.
 pub fn pass_places()
     ensures { PassPlaces }
+{}
+
+/// One more entry, as at a step of a loop over them.
+pub fn pass_more()
+    ensures { PassMore }
+{}
+
+/// Where a block goes hangs on how many entries each node has alone.
+pub fn spot_alike()
+    ensures { SpotAlike }
 {}
 
 /// Node by node, the greatest first, is a placement too, so the same one.
