@@ -1,5 +1,5 @@
 -- The names of the faults of a text.
-use Rattle.std.specs.Prelude.{ℕ, List, codes}
+use Rattle.std.specs.Prelude.{ℕ, List, ◌++◌, codes, decimal}
 use Rattle.tao_text.specs.declared.faults.TextKind.{TextKind}
 use Rattle.tao_text.specs.declared.faults.TextKind.TheVariants.{NotText, Word, Number, Hex, Length, Range, Order, TapeShort, TooLong, Memory, Unbuilt}
 
@@ -15,3 +15,6 @@ kind_name TapeShort = codes "TapeShort"
 kind_name TooLong = codes "TooLong"
 kind_name Memory = codes "Memory"
 kind_name Unbuilt = codes "Unbuilt"
+
+abbrev pub fault_text : ℕ → TextKind → List ℕ
+fault_text line kind = codes "line " ++ decimal line ++ codes ": " ++ kind_name kind

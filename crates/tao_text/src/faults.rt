@@ -87,6 +87,11 @@ pub struct TextFault {
 }
 
 impl fmt::Display for TextFault {
+    ghost use Rattle.std.specs.Prelude.{Some};
+    ghost use Rattle.tao_text.specs.Kinds.{fault_text};
+
+    ghost output = { λ fault. Some (fault_text fault.line fault.kind) };
+
     fn fmt<W: fmt::Write>(&self, f: &mut fmt::Formatter<W>) -> fmt::Result {
         write!(f, "line {}: {}", self.line, self.kind)
     }
