@@ -1,7 +1,7 @@
 -- One whole operation, over all that the desk holds.
-use Rattle.std.proofs.Common.{◌≡◌, ℕ, zero, suc, ◌+◌, ◌-◌, ◌*◌, ◌%◌, ◌^◌, ◌<◌, ◌≤◌, Bool, true, false, not, ◌&&◌, cond, List, [], ◌∷◌, ◌++◌, length, map, take, reverse, slice_index, get_or, set, All, Some, refl, sym, ap, ap₂, ◌∙◌, subst, arith, inl, inr, ◌⊎◌, nat_eq}
+use Rattle.std.proofs.Common.{◌≡◌, ℕ, zero, suc, ◌+◌, ◌-◌, ◌*◌, ◌^◌, ◌<◌, ◌≤◌, Bool, true, false, not, ◌&&◌, List, [], ◌∷◌, ◌++◌, length, map, take, reverse, slice_index, get_or, set, All, Some, refl, sym, ap, ◌∙◌, subst, arith, inl, inr, ◌⊎◌, nat_eq}
 use Rattle.std.proofs.lemmas.Bool.{ne_eqb, eq-eqb, lt-ltb, cases_eq, true≢false}
-use Rattle.std.proofs.lemmas.List.{reverse-append, append_assoc, length-set, get_or-set_same, get_or-set_other, get_or_default, length-map, length-take-le}
+use Rattle.std.proofs.lemmas.List.{reverse-append, length-set, get_or-set_same, get_or-set_other, get_or_default, length-map, length-take-le}
 use Rattle.std.proofs.lemmas.List.FromFn.{length-map-range_with_len, get_or-map-range_with_len}
 use Rattle.std.proofs.lemmas.List.Elements.{All-map}
 use Rattle.std.proofs.lemmas.Nat.{pow-add, pow_pos}
@@ -27,7 +27,7 @@ use Rattle.tao_model.proofs.Stays.{newest_first, place_stays}
 use Rattle.tao_model.proofs.Places.{next_below}
 use Rattle.tao_model.proofs.OneMoreEvent.{one_more_arrive, own_word}
 use Rattle.tao_desk.specs.Whole.{DeskState, arrivals_of, words_left, IsSound, empty_bucket, empty_load}
-use Rattle.tao_desk.specs.Quiet.{IsQuiet, AreEmpty, four, AreStamped, Stores, MayPlay, IsDesk, bucket_at, placed, NamesBelow}
+use Rattle.tao_desk.specs.Quiet.{IsQuiet, AreEmpty, four, AreStamped, Stores, MayPlay, IsDesk, bucket_at, placed}
 use Rattle.tao_desk.proofs.QuietStep.{quiet_step, none_below, all_between, all_nodes, nodes_map}
 use Rattle.tao_desk.proofs.PathList.{path_climbs}
 

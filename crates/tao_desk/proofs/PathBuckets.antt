@@ -1,17 +1,14 @@
 -- One more bucket of a path: gathered, stamped, stored.
-use Rattle.std.proofs.Common.{◌≡◌, ℕ, zero, suc, ◌+◌, ◌-◌, ◌<◌, ◌≤◌, Bool, true, false, cond, List, [], ◌∷◌, ◌++◌, length, map, take, drop, get_or, set, All, Option, Some, None, refl, sym, ap, ap₂, ◌∙◌, subst, arith, inl, inr, ◌⊎◌, nat_eq}
+use Rattle.std.proofs.Common.{◌≡◌, ℕ, ◌+◌, ◌-◌, ◌<◌, ◌≤◌, List, [], ◌∷◌, ◌++◌, length, map, take, get_or, set, All, refl, sym, ap, ap₂, ◌∙◌, subst, arith}
 use Rattle.std.specs.List.{range_with_len}
-use Rattle.std.specs.Option.{option_or}
-use Rattle.std.proofs.lemmas.Bool.{ne_eqb, eq-eqb, cases_eq}
-use Rattle.std.proofs.lemmas.List.{take_more_set, drop_more, map-set, set-get_or, take-map, length-set, get_or-set_same, get_or-set_other, take_all, length-map, get_or_default}
-use Rattle.std.proofs.lemmas.List.FromFn.{map-range_with_len_more, length-map-range_with_len}
+use Rattle.std.proofs.lemmas.List.{take_more_set, map-set, set-get_or, take_all, get_or_default}
+use Rattle.std.proofs.lemmas.List.FromFn.{map-range_with_len_more}
 use Rattle.std.proofs.lemmas.List.Elements.{All-set, All-push}
 use Rattle.tao_base.specs.declared.storage.Bucket.{Bucket}
 use Rattle.tao_base.specs.Tree.{node_at, path}
-use Rattle.tao_model.specs.Residence.{bucket_of}
 use Rattle.tao_model.specs.Trace.{nodes_in}
 use Rattle.tao_desk.specs.Whole.{empty_bucket, empty_load}
-use Rattle.tao_desk.specs.Quiet.{AreEmpty, AreStamped, Stores, bucket_at, stamped}
+use Rattle.tao_desk.specs.Quiet.{AreEmpty, AreStamped, bucket_at, stamped}
 
 -- what was gathered, to a depth
 abbrev pub gathered : List Bucket → ℕ → ℕ → ℕ → List Bucket

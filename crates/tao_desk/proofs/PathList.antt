@@ -1,10 +1,10 @@
 -- A path as a list: it rises, and it is what the nodes of the tree have of it.
-use Rattle.std.proofs.Common.{◌≡◌, ℕ, zero, suc, ◌+◌, ◌-◌, ◌*◌, ◌/◌, ◌^◌, ◌<◌, ◌≤◌, Bool, true, false, ◌||◌, cond, List, [], ◌∷◌, ◌++◌, length, map, filter, All, refl, sym, ap, ap₂, ◌∙◌, subst, arith, inl, inr, ◌⊎◌, nat_eq}
+use Rattle.std.proofs.Common.{◌≡◌, ℕ, zero, suc, ◌+◌, ◌*◌, ◌^◌, ◌<◌, ◌≤◌, Bool, false, cond, List, [], ◌∷◌, map, filter, refl, sym, ap, ap₂, ◌∙◌, subst, arith, inl, inr, ◌⊎◌, nat_eq}
 use Rattle.std.specs.List.{range_with_len, list_any}
-use Rattle.std.proofs.lemmas.Bool.{ne_eqb, eq-eqb, eqb-true, cases_eq, cases_lt, true≢false}
+use Rattle.std.proofs.lemmas.Bool.{ne_eqb, eq-eqb, cases_eq}
 use Rattle.tao_base.specs.Tree.{node_at, node_count, path, is_on_path}
 use Rattle.std.proofs.lemmas.Nat.{pow_pos, pow-add}
-use Rattle.tao_base.proofs.TreeLemmas.{node_low, node_high, one_le_node}
+use Rattle.tao_base.proofs.TreeLemmas.{node_low, node_high}
 
 -- the numbers rise from a on and stay below b
 abbrev pub Climbs : ℕ → ℕ → List ℕ → Type 0

@@ -1,26 +1,25 @@
 -- One whole operation keeps the desk quiet. The events are newest first.
-use Rattle.std.proofs.Common.{◌≡◌, ℕ, zero, suc, ◌+◌, ◌-◌, ◌*◌, ◌/◌, ◌^◌, ◌<◌, ◌≤◌, Bool, true, false, not, ◌&&◌, ◌||◌, cond, List, [], ◌∷◌, ◌++◌, length, map, filter, All, Option, Some, None, IfSome, refl, sym, ap, ap₂, ◌∙◌, subst, arith, inl, inr, ◌⊎◌, nat_eq, nat_lt, slice_index_or}
+use Rattle.std.proofs.Common.{◌≡◌, ℕ, zero, suc, ◌+◌, ◌*◌, ◌^◌, ◌<◌, ◌≤◌, Bool, true, false, not, ◌&&◌, ◌||◌, cond, List, [], ◌∷◌, length, map, filter, All, Option, Some, None, IfSome, refl, sym, ap, ap₂, ◌∙◌, subst, arith, inl, inr, ◌⊎◌, nat_eq, nat_lt, slice_index_or}
 use Rattle.std.specs.Prelude.{is_some}
-use Rattle.std.specs.List.{range_with_len, list_any, find}
+use Rattle.std.specs.List.{list_any}
 use Rattle.std.specs.Option.{option_or}
-use Rattle.std.proofs.lemmas.Bool.{ne_eqb, eq-eqb, eqb-true, eqb-false, cases_eq, cases_lt, cases_Bool, true≢false, lt-ltb, le-ltb}
+use Rattle.std.proofs.lemmas.Bool.{ne_eqb, eq-eqb, cases_eq, lt-ltb, le-ltb}
 use Rattle.std.proofs.lemmas.List.{length-map}
 use Rattle.std.proofs.lemmas.List.FromFn.{length-map-range_with_len}
 use Rattle.std.proofs.lemmas.Nat.{pow_pos}
 use Rattle.std.proofs.lemmas.List.Elements.{All-cons, All-tail, All-map}
 use Rattle.tao_base.specs.declared.calls.Op.{Op}
 use Rattle.tao_base.specs.declared.session.Event.{Event}
-use Rattle.tao_base.specs.declared.session.Event.TheVariants.{Arrive, Done, Issue, Acked}
+use Rattle.tao_base.specs.declared.session.Event.TheVariants.{Arrive, Done, Issue}
 use Rattle.tao_base.specs.declared.storage.Bucket.{Bucket}
 use Rattle.tao_base.specs.Limits.{Shape}
 use Rattle.tao_base.specs.Session.{Opening}
-use Rattle.tao_base.specs.Tree.{node_at, node_count, path, is_on_path, leaf_of}
-use Rattle.tao_model.specs.Events.{arrived, dones, issues, buckets_issued, has_fault, is_done, is_acked}
+use Rattle.tao_base.specs.Tree.{node_at, node_count, path, is_on_path}
+use Rattle.tao_model.specs.Events.{arrived, dones, issues, is_done}
 use Rattle.tao_model.specs.Requests.{any_below, fetches, fetched_leaf}
-use Rattle.tao_model.specs.Residence.{last_touch, is_covered, is_issued, departs, is_resident, bucket_of, newest_write, newest_version, Unaltered, HasEntriesOf}
-use Rattle.tao_model.specs.Lawful.{FollowsLawfully, MayFollow, MayBeDone, MayBeIssued, IsInForm}
+use Rattle.tao_model.specs.Residence.{last_touch, is_covered, departs, is_resident, bucket_of, newest_write, newest_version, HasEntriesOf}
+use Rattle.tao_model.specs.Lawful.{FollowsLawfully, MayBeDone, MayBeIssued, IsInForm}
 use Rattle.tao_model.specs.Trace.{nodes_in}
-use Rattle.tao_model.specs.Placement.{Rises}
 use Rattle.tao_model.proofs.Places.{done_arrived}
 use Rattle.tao_desk.specs.Quiet.{IsServed, IsQuiet, four, AreStamped, Stores, MayPlay, QuietStep}
 use Rattle.tao_desk.proofs.PathList.{Climbs, path_climbs, path_filter, filter_same}

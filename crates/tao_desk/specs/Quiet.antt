@@ -1,5 +1,5 @@
 -- The desk between two whole operations: every arrival is done, written back and acknowledged. The events are newest first.
-use Rattle.std.specs.Prelude.{◌≡◌, ℕ, ◌+◌, ◌-◌, ◌*◌, ◌<◌, ◌≤◌, Bool, true, false, List, [], ◌∷◌, map, length, take, reverse, slice_index, slice_index_or, slice_set, Option, Some, None, All, ⊤}
+use Rattle.std.specs.Prelude.{◌≡◌, ℕ, ◌+◌, ◌-◌, ◌*◌, ◌<◌, ◌≤◌, true, false, List, [], ◌∷◌, map, length, take, reverse, slice_index, slice_index_or, slice_set, Some, All, ⊤}
 use Rattle.std.specs.List.{range_with_len}
 use Rattle.std.specs.Option.{option_or}
 use Rattle.tao_base.specs.declared.calls.Op.{Op}

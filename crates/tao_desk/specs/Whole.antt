@@ -1,13 +1,12 @@
 -- Whole operations: each arrival is fetched, taken in, written back and acknowledged before the next one comes.
-use Rattle.std.specs.Prelude.{◌≡◌, ℕ, ◌+◌, ◌-◌, ◌*◌, ◌<◌, ◌≤◌, ◌==◌, nat_lt, not, Bool, true, false, List, [], ◌∷◌, ◌++◌, map, take, length, reverse, Option, Some, None, if◌then◌else◌}
+use Rattle.std.specs.Prelude.{◌≡◌, ℕ, ◌+◌, ◌-◌, ◌==◌, nat_lt, List, [], ◌∷◌, ◌++◌, map, take, length, reverse, Option, Some, None, if◌then◌else◌}
 use Rattle.std.specs.List.{range_with_len}
 use Rattle.tao_base.specs.declared.calls.Op.{Op}
 use Rattle.tao_base.specs.declared.calls.Op.TheVariants.{Read, Write, Pad}
-use Rattle.tao_base.specs.declared.session.Event.{Event}
 use Rattle.tao_base.specs.declared.session.Event.TheVariants.{Arrive, Done, Issue, Acked}
 use Rattle.tao_base.specs.declared.storage.Bucket.{Bucket}
 use Rattle.tao_base.specs.Limits.{Shape, session_limit}
-use Rattle.tao_base.specs.Session.{Opening, History}
+use Rattle.tao_base.specs.Session.{History}
 use Rattle.tao_base.specs.Tree.{node_count}
 use Rattle.tao_model.specs.Events.{arrived}
 use Rattle.tao_model.specs.Lawful.{FollowsLawfully, OwesNone}

@@ -1,11 +1,11 @@
 -- The tables that fit the events before a place fit those before the next one, once its event is kept.
-use Rattle.std.proofs.Common.{◌≡◌, ℕ, ◌+◌, ◌<◌, ◌≤◌, Bool, true, false, List, [], ◌∷◌, ◌++◌, length, refl, sym, ap, ◌∙◌, subst, arith}
+use Rattle.std.proofs.Common.{◌≡◌, ℕ, ◌+◌, Bool, List, [], ◌∷◌, ◌++◌, length, sym, ap, ◌∙◌, subst, arith}
 use Rattle.tao_base.specs.declared.calls.Op.{Op}
 use Rattle.tao_base.specs.declared.session.Event.{Event}
 use Rattle.tao_base.specs.declared.session.Event.TheVariants.{Arrive, Done, Issue, Acked, Fault}
 use Rattle.tao_base.specs.declared.session.Cause.{Cause}
 use Rattle.tao_base.specs.declared.storage.Bucket.{Bucket}
-use Rattle.tao_base.specs.Session.{Opening, History}
+use Rattle.tao_base.specs.Session.{History}
 use Rattle.tao_model.specs.Requests.{real_now}
 use Rattle.tao_model.specs.Replies.{released}
 use Rattle.tao_trace.specs.Printing.{events_before}

@@ -1,13 +1,13 @@
 -- What the tables tell of the next arrival. The tables fit the events before the place.
-use Rattle.std.proofs.Common.{◌≡◌, ℕ, ◌+◌, ◌<◌, ◌≤◌, Bool, true, false, List, [], ◌∷◌, length, Option, Some, None, get_or, slice_index, refl, sym, ap, ◌∙◌, subst, arith}
-use Rattle.tao_base.specs.declared.calls.Op.TheVariants.{Read, Write, Pad}
+use Rattle.std.proofs.Common.{◌≡◌, ℕ, ◌<◌, true, List, length, Some, None, get_or, slice_index, sym, ◌∙◌, subst, arith}
+use Rattle.tao_base.specs.declared.calls.Op.TheVariants.{Read}
 use Rattle.tao_base.specs.declared.session.Event.{Event}
 use Rattle.tao_base.specs.Session.{Opening, History}
-use Rattle.tao_model.specs.Events.{arrived, is_done, word_of, word_at}
+use Rattle.tao_model.specs.Events.{word_at}
 use Rattle.tao_model.specs.Requests.{real_now, next_word}
-use Rattle.tao_model.specs.Lawful.{FollowsLawfully, IsOpening}
+use Rattle.tao_model.specs.Lawful.{IsOpening}
 use Rattle.tao_trace.specs.Printing.{events_before}
-use Rattle.tao_trace.specs.Tables.{last_on, IsTold, IsSlot, AreTables, Fit}
+use Rattle.tao_trace.specs.Tables.{IsTold, IsSlot, AreTables, Fit}
 use Rattle.tao_trace.specs.declared.tables.Told.{Told}
 use Rattle.tao_trace.specs.declared.tables.Slot.{Slot}
 use Rattle.tao_trace.proofs.LastOn.{none_on, some_on}

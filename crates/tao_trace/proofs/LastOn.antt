@@ -1,9 +1,9 @@
 -- The last real arrival on a block tells whether the next one is real, and which word it uses. The events `es` are newest first.
-use Rattle.std.proofs.Common.{◌≡◌, ℕ, ◌+◌, ◌<◌, ◌≤◌, Bool, true, false, not, ◌&&◌, cond, List, [], ◌∷◌, ◌++◌, length, reverse, Option, Some, None, slice_index, refl, sym, ap, ◌∙◌, subst, arith, inl, inr, ◌⊎◌, MatchOption}
+use Rattle.std.proofs.Common.{◌≡◌, ℕ, ◌+◌, ◌<◌, ◌≤◌, Bool, true, false, ◌&&◌, cond, List, [], ◌∷◌, Some, None, slice_index, refl, sym, ap, ◌∙◌, subst, arith, inl, inr, ◌⊎◌}
 use Rattle.std.specs.Option.{option_map_or}
 use Rattle.std.proofs.lemmas.Bool.{eq-eqb, cases_lt, and_from, lt-ltb, true≢false, cases_eq}
 use Rattle.tao_base.specs.declared.calls.Op.{Op}
-use Rattle.tao_base.specs.declared.calls.Op.TheVariants.{Read, Write, Pad}
+use Rattle.tao_base.specs.declared.calls.Op.TheVariants.{Read}
 use Rattle.tao_base.specs.declared.session.Event.{Event}
 use Rattle.tao_base.specs.declared.session.Event.TheVariants.{Arrive, Done, Issue, Acked, Fault}
 use Rattle.tao_base.specs.Session.{Opening}

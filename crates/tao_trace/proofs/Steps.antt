@@ -1,5 +1,5 @@
 -- The tables after one more event. The events `es` are newest first.
-use Rattle.std.proofs.Common.{◌≡◌, ℕ, ◌+◌, ◌<◌, ◌≤◌, ◌==◌, Bool, true, false, ◌&&◌, ◌||◌, cond, List, [], ◌∷◌, ◌++◌, length, Option, Some, None, get_or, set, refl, sym, ap, ◌∙◌, subst, arith, inl, inr, ◌⊎◌}
+use Rattle.std.proofs.Common.{◌≡◌, ℕ, ◌+◌, ◌<◌, ◌≤◌, ◌==◌, false, ◌&&◌, ◌||◌, cond, List, [], ◌∷◌, ◌++◌, length, Some, None, get_or, set, refl, sym, ap, ◌∙◌, subst, arith, inl, inr, ◌⊎◌}
 use Rattle.std.specs.Option.{option_map}
 use Rattle.std.proofs.lemmas.Bool.{eq-eqb, ne_eqb, cases_lt, cases_eq}
 use Rattle.std.proofs.lemmas.List.{get_or_append_left, get_or_push, length_push, get_or-set_same, get_or-set_other}
@@ -9,16 +9,16 @@ use Rattle.tao_base.specs.declared.session.Cause.{Cause}
 use Rattle.tao_base.specs.declared.session.Event.{Event}
 use Rattle.tao_base.specs.declared.session.Event.TheVariants.{Arrive, Done, Issue, Acked, Fault}
 use Rattle.tao_base.specs.declared.storage.Bucket.{Bucket}
-use Rattle.tao_base.specs.Session.{Opening, History}
+use Rattle.tao_base.specs.Session.{Opening}
 use Rattle.tao_base.specs.Array.{block_at, array_step, array_reply}
-use Rattle.tao_model.specs.Events.{arrived, names, is_done, is_pad, client_of, word_of}
+use Rattle.tao_model.specs.Events.{arrived, names, is_done, is_pad}
 use Rattle.tao_model.specs.Requests.{real_now}
-use Rattle.tao_model.specs.Replies.{array_now, plain_reply, released, leading}
+use Rattle.tao_model.specs.Replies.{array_now, plain_reply, released}
 use Rattle.tao_model.specs.Lawful.{FollowsLawfully, IsOpening}
 use Rattle.tao_model.proofs.Stays.{pad_stays, client_stays, word_stays, reply_stays}
 use Rattle.tao_model.proofs.Places.{done_arrived}
 use Rattle.tao_model.proofs.Growth.{IsLeading, leading_is, leading_grows}
-use Rattle.tao_trace.specs.Tables.{last_on, reply_of, reply_for, value_after, is_pad_op, IsTold, IsSlot, AreTables, AreMoved, IsMoved, AreMarked, IsMarked}
+use Rattle.tao_trace.specs.Tables.{reply_of, reply_for, value_after, is_pad_op, IsTold, IsSlot, AreTables, AreMoved, IsMoved, AreMarked, IsMarked}
 use Rattle.tao_trace.specs.declared.tables.Told.{Told}
 use Rattle.tao_trace.specs.declared.tables.Slot.{Slot}
 use Rattle.tao_trace.proofs.Following.{opening_of, after_arrive, array_len}

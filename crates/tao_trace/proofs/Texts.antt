@@ -1,11 +1,11 @@
 -- The lines of the next event, in words of the tables.
-use Rattle.std.proofs.Common.{◌≡◌, ℕ, ◌+◌, ◌-◌, ◌<◌, ◌≤◌, Bool, true, false, ◌||◌, List, [], ◌∷◌, ◌++◌, codes, cond, length, flat_map, refl, sym, ap, ◌∙◌, subst, arith}
+use Rattle.std.proofs.Common.{◌≡◌, ℕ, ◌-◌, ◌<◌, ◌≤◌, Bool, true, false, List, [], ◌∷◌, ◌++◌, codes, cond, length, flat_map, refl, sym, ap, ◌∙◌, arith}
 use Rattle.std.specs.List.{range_with_len}
 use Rattle.std.proofs.lemmas.Bool.{eq-eqb}
 use Rattle.tao_base.specs.declared.calls.Op.{Op}
 use Rattle.tao_base.specs.declared.calls.Op.TheVariants.{Read, Write, Pad}
 use Rattle.tao_base.specs.declared.session.Event.{Event}
-use Rattle.tao_base.specs.declared.session.Event.TheVariants.{Arrive, Done, Issue, Acked, Fault}
+use Rattle.tao_base.specs.declared.session.Event.TheVariants.{Arrive, Done}
 use Rattle.tao_base.specs.declared.storage.Bucket.{Bucket}
 use Rattle.tao_base.specs.Session.{Opening, History}
 use Rattle.tao_base.specs.Tree.{leaf_of}
@@ -15,9 +15,9 @@ use Rattle.tao_model.specs.Requests.{real_now, next_word, fetched_leaf}
 use Rattle.tao_model.specs.Replies.{released}
 use Rattle.tao_model.specs.Lawful.{FollowsLawfully}
 use Rattle.tao_model.specs.Transcript.{arrive_line, reply_line}
-use Rattle.tao_model.proofs.Growth.{IsLeading, leading_is, done_stays}
+use Rattle.tao_model.proofs.Growth.{leading_is, done_stays}
 use Rattle.tao_trace.specs.Printing.{events_before, lines_at}
-use Rattle.tao_trace.specs.Tables.{AreTables, Fit, IsNext, word_fetched}
+use Rattle.tao_trace.specs.Tables.{Fit, IsNext, word_fetched}
 use Rattle.tao_trace.specs.declared.tables.Told.{Told}
 use Rattle.tao_trace.specs.declared.tables.Slot.{Slot}
 use Rattle.tao_trace.proofs.Following.{after_arrive}

@@ -1,11 +1,10 @@
 -- The lines that are printed one after another are those of the transcript.
-use Rattle.std.proofs.Common.{◌≡◌, ℕ, zero, suc, ◌+◌, ◌-◌, ◌<◌, ◌≤◌, nat_le, cond, List, [], ◌∷◌, ◌++◌, length, reverse, take, drop, get_or, flat_map, refl, sym, ap, ◌∙◌, arith, add-one, append_assoc, append-nil}
-use Rattle.std.specs.List.{range_with_len}
+use Rattle.std.proofs.Common.{◌≡◌, ℕ, zero, suc, ◌+◌, ◌-◌, ◌<◌, ◌≤◌, cond, List, [], ◌∷◌, ◌++◌, length, reverse, take, drop, get_or, refl, sym, ap, ◌∙◌, arith, add-one, append_assoc, append-nil}
 use Rattle.std.proofs.Math.Seq.{take-suc, drop-cons, drop-length}
 use Rattle.std.proofs.lemmas.Bool.{lt-leb}
 use Rattle.tao_base.specs.declared.session.Event.{Event}
 use Rattle.tao_base.specs.declared.session.Event.TheVariants.{Arrive, Done, Issue, Acked, Fault}
-use Rattle.tao_base.specs.Session.{Opening, History}
+use Rattle.tao_base.specs.Session.{History}
 use Rattle.tao_model.specs.Events.{acks}
 use Rattle.tao_model.specs.Transcript.{event_lines, again_before, again_line, lines_from, acks_in, opening_lines, closing_lines}
 use Rattle.tao_model.proofs.Stays.{newest_first}

@@ -1,5 +1,5 @@
 -- However a call ends, what it has put stands behind what was put before.
-use Rattle.std.proofs.Common.{◌≡◌, ◌⊎◌, inl, inr, ℕ, List, Option, take}
+use Rattle.std.proofs.Common.{inl, inr, ℕ, List, Option, take}
 use Rattle.taostore.specs.declared.output.End.{End}
 use Rattle.taostore.specs.Output.{Finishes, PutsMore}
 use Rattle.taostore.specs.Endings.{EndsAs}

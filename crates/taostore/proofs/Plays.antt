@@ -1,12 +1,10 @@
 -- One more step of a script, and one more load.
-use Rattle.std.proofs.Common.{◌≡◌, ℕ, ◌+◌, ◌<◌, ◌≤◌, List, [], ◌∷◌, ◌++◌, length, take, replicate, fold, set, get_or, All, refl, sym, ap, ◌∙◌, subst, arith}
-use Rattle.std.proofs.lemmas.List.{take_more, length-set}
-use Rattle.std.proofs.lemmas.List.Elements.{All-set}
-use Rattle.tao_base.specs.declared.storage.Entry.{Entry}
+use Rattle.std.proofs.Common.{◌≡◌, ℕ, ◌+◌, ◌<◌, List, [], ◌∷◌, ◌++◌, length, take, get_or, refl, sym, ap, ◌∙◌, subst, arith}
+use Rattle.std.proofs.lemmas.List.{take_more}
 use Rattle.tao_base.specs.Session.{History}
 use Rattle.tao_text.specs.declared.script.Step.{Step}
 use Rattle.tao_desk.specs.Whole.{DeskState, words_left, arrivals_of, IsSound}
-use Rattle.taostore.specs.Playing.{PlaysStep, PlaysSteps, put_load}
+use Rattle.taostore.specs.Playing.{PlaysStep, PlaysSteps}
 
 -- where the desk is after some of the steps
 pub record IsAt (steps : List Step) (i : ℕ) (old new : DeskState) : Type 0 where

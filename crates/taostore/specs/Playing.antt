@@ -1,5 +1,5 @@
 -- A script that is played on the desk: what it opens, and what its steps leave in the record.
-use Rattle.std.specs.Prelude.{◌≡◌, ℕ, ◌+◌, ◌≤◌, List, [], ◌∷◌, length, take, replicate, slice_set, slice_index, fold, unwrap_or, reverse, ⊤}
+use Rattle.std.specs.Prelude.{◌≡◌, ℕ, ◌+◌, List, [], ◌∷◌, take, replicate, slice_set, slice_index, fold, unwrap_or, reverse, ⊤}
 use Rattle.tao_base.specs.declared.storage.Entry.{Entry}
 use Rattle.tao_base.specs.Session.{History}
 use Rattle.tao_text.specs.declared.script.Script.{Script}

@@ -1,4 +1,4 @@
-use Rattle.std.proofs.Common.{◌≡◌, length, drop}
+use Rattle.std.proofs.Common.{length, drop}
 use Rattle.tao_desk.specs.Quiet.{AreEmpty, Stores, bucket_at}
 use Rattle.tao_desk.proofs.paths.store.Given as goal
 

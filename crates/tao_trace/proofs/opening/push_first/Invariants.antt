@@ -1,4 +1,4 @@
-use Rattle.std.proofs.Common.{◌≡◌, ◌++◌, length, flat_map}
+use Rattle.std.proofs.Common.{◌≡◌, ◌++◌, flat_map}
 use Rattle.std.specs.List.{range_with_len}
 use Rattle.tao_model.specs.Transcript.{first_line}
 use Rattle.tao_trace.proofs.opening.push_first.Given as goal

@@ -1,5 +1,4 @@
 use Rattle.std.proofs.Common.{◌≡◌}
-use Rattle.tao_trace.specs.Printing.{PrinterState}
 use Rattle.tao_trace.proofs.printer.print_event.Given as goal
 
 pub record IsPassed (l : goal.Live-loop) : Type 0 where

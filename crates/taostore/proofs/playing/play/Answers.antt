@@ -1,4 +1,3 @@
-use Rattle.std.proofs.Common.{sym, ap, subst}
 use Rattle.taostore.proofs.playing.play.Goals as goal
 
 pub play_steps-requires-clause-steps : goal.play_steps-requires-clause-steps

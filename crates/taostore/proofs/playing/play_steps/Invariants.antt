@@ -1,6 +1,3 @@
-use Rattle.std.proofs.Common.{◌≡◌, ◌+◌, take}
-use Rattle.tao_desk.specs.Whole.{words_left, arrivals_of, IsSound}
-use Rattle.taostore.specs.Playing.{PlaysSteps}
 use Rattle.taostore.proofs.Plays.{IsAt}
 use Rattle.taostore.proofs.playing.play_steps.Given as goal
 

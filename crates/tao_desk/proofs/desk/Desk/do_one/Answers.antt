@@ -1,4 +1,4 @@
-use Rattle.std.proofs.Common.{◌≡◌, ◌∙◌, ◌+◌, ◌<◌, sym, ap, subst}
+use Rattle.std.proofs.Common.{◌∙◌, ◌+◌, ◌<◌, sym, ap, subst}
 use Rattle.tao_base.specs.Limits.{session_limit}
 use Rattle.tao_model.specs.Lawful.{IsInRange}
 use Rattle.tao_desk.specs.Whole.{DeskState, arrivals_of}

@@ -1,4 +1,4 @@
-use Rattle.std.proofs.Common.{◌∙◌, ap, arith, ◌<◌, length, slice_index}
+use Rattle.std.proofs.Common.{◌∙◌, ap, arith, length, slice_index}
 use Rattle.tao_trace.proofs.Kept.{last_within, word_some, word_none, opens}
 use Rattle.tao_trace.proofs.tables.Tables.next_word.Goals as goal
 

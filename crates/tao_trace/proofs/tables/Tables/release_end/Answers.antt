@@ -1,4 +1,4 @@
-use Rattle.std.proofs.Common.{◌≡◌, ◌≤◌, ◌<◌, ◌∙◌, sym, arith, refl, length}
+use Rattle.std.proofs.Common.{◌∙◌, sym, arith}
 use Rattle.tao_trace.proofs.Texts.{done_before, ends_at, released_within}
 use Rattle.tao_trace.proofs.tables.Tables.release_end.Goals as goal
 
