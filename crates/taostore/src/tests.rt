@@ -168,7 +168,8 @@ fn transcripts(rt: HostRuntime) -> Result<(), Fail> {
     for (script, text) in &PLAYS {
         let bytes = Image::from_slice(rt.alloc(), script.as_bytes())?;
         let (status, sink) = played(rt.alloc(), bytes, 999)?;
-        assert_eq!(rt; (status, sink.bytes()), (0, text.as_bytes()), "at {script}");
+        let written = (status, sink.bytes());
+        assert_eq!(rt; written, (0, text.as_bytes()), "at {script}");
     }
     Ok(())
 }
