@@ -1,0 +1,9 @@
+pub mod Again
+pub mod Clear
+pub mod Faults
+pub mod Firsts
+pub mod Pieces
+pub mod Stocks
+pub mod Taken
+pub mod Whole
+pub mod Written
