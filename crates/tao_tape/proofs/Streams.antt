@@ -1,9 +1,10 @@
 -- The bytes of a stream by its words, and bytes that are xored with it.
-use Rattle.std.proofs.Common.{◌≡◌, ℕ, ◌+◌, ◌-◌, ◌*◌, ◌/◌, ◌%◌, ◌^◌, ◌≤◌, ◌<◌, List, length, get_or, slice_index, bit_xor, sym, ap, ap₂, ◌∙◌, inl, inr, arith}
+use Rattle.std.proofs.Common.{◌≡◌, ℕ, zero, suc, ◌+◌, ◌-◌, ◌*◌, ◌/◌, ◌%◌, ◌^◌, ◌≤◌, ◌<◌, List, length, get_or, slice_index, bit_xor, sym, ap, ap₂, ◌∙◌, inl, inr, arith}
 use Rattle.std.specs.Int.{w32, to_le_bytes}
 use Rattle.std.specs.Int.Bits.{xor_assoc, xor_self, xor_zero_r}
 use Rattle.std.proofs.lemmas.Bool.{cases_lt}
-use Rattle.std.proofs.lemmas.List.{ext_get_or}
+use Rattle.std.proofs.lemmas.Nat.{xor_of_8}
+use Rattle.std.proofs.lemmas.List.{ext_get_or, get_or_past}
 use Rattle.std.proofs.lemmas.List.FromFn.{get_or-map-range_with_len, length-map-range_with_len, fill_by_all}
 use Rattle.rand_chacha.specs.ChaCha.{ChaCha, next_word, key_of}
 use Rattle.tao_tape.specs.Keystream.{stream_word, stream_byte, xored_byte, xored}
@@ -75,3 +76,23 @@ xored_again key n bytes =
     let outer : t < length (xored key n bytes) = omega arith in
     let inner : t < length bytes = omega arith in
     at_xored key n (xored key n bytes) t outer ∙ ap (λ x. bit_xor x (stream_byte key n t)) (at_xored key n bytes t inner) ∙ xor_again (get_or bytes t 0) (stream_byte key n t))
+
+byte_fits : (word c : ℕ) → get_or (to_le_bytes w32 word) c 0 < 256
+byte_fits word zero = omega arith
+byte_fits word (suc zero) = omega arith
+byte_fits word (suc (suc zero)) = omega arith
+byte_fits word (suc (suc (suc zero))) = omega arith
+byte_fits word (suc (suc (suc (suc c)))) = omega arith
+
+-- bytes that are xored are bytes
+pub xored_fits : (key : List ℕ) (n : ℕ) (bytes : List ℕ) → ((t : ℕ) → get_or bytes t 0 < 256) → (t : ℕ) → get_or (xored key n bytes) t 0 < 256
+unfolding stream_byte
+xored_fits key n bytes fit t =
+    let len = length_xored key n bytes in
+    elim (cases_lt t (length bytes)) [
+      | inl lt ↦
+        let same = at_xored key n bytes t lt in
+        let below : xored_byte key n bytes t < 2 ^ 8 = xor_of_8 (get_or bytes t 0) (stream_byte key n t) (fit t) (byte_fits (stream_word key n (t / 4)) (t % 4)) in
+        rw same below
+      | inr le ↦ rw (get_or_past (xored key n bytes) t 0 (omega arith)) (omega arith)
+    ]
