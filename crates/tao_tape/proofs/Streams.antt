@@ -91,8 +91,8 @@ xored_fits key n bytes fit t =
     let len = length_xored key n bytes in
     elim (cases_lt t (length bytes)) [
       | inl lt ↦
-        let same = at_xored key n bytes t lt in
-        let below : xored_byte key n bytes t < 2 ^ 8 = xor_of_8 (get_or bytes t 0) (stream_byte key n t) (fit t) (byte_fits (stream_word key n (t / 4)) (t % 4)) in
-        rw same below
+          let same = at_xored key n bytes t lt in
+          let below : xored_byte key n bytes t < 2 ^ 8 = xor_of_8 (get_or bytes t 0) (stream_byte key n t) (fit t) (byte_fits (stream_word key n (t / 4)) (t % 4)) in
+          rw same below
       | inr le ↦ rw (get_or_past (xored key n bytes) t 0 (omega arith)) (omega arith)
     ]
