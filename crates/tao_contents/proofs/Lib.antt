@@ -1,1 +1,5 @@
+pub mod Current
+pub mod Fetched
+pub mod Looks
+pub mod MovedCopies
 pub mod OneEntry

@@ -1,18 +1,17 @@
 -- Fresh copy says that each block has exactly one entry.
-use Rattle.std.proofs.Common.{◌≡◌, ℕ, zero, suc, ◌+◌, ◌<◌, ◌≤◌, Bool, true, false, cond, List, [], ◌∷◌, ◌++◌, All, Option, Some, None, refl, sym, ap, ◌∙◌, arith, inl, inr, ◌⊎◌, nat_eq}
+use Rattle.std.proofs.Common.{◌≡◌, ℕ, zero, suc, ◌+◌, ◌<◌, ◌≤◌, true, cond, List, [], ◌∷◌, All, Option, Some, None, refl, sym, ap, ◌∙◌, arith, inl, inr, ◌⊎◌, nat_eq}
 use Rattle.std.specs.List.{count_by, flat_map, range_with_len}
 use Rattle.std.proofs.lemmas.Bool.{ne_eqb, eq-eqb, cases_eq, cases_lt}
 use Rattle.std.proofs.lemmas.Option.{none-some, same_Some}
 use Rattle.std.proofs.lemmas.List.Sums.{sum_by-cons, sum_by-append}
 use Rattle.std.proofs.lemmas.List.Elements.{All-head, All-tail, All-weaker}
 use Rattle.tao_base.specs.declared.storage.Entry.{Entry}
-use Rattle.tao_base.specs.Limits.{Shape}
 use Rattle.tao_base.specs.Tree.{node_count, is_on_path}
 use Rattle.tao_model.specs.Placement.{Rises, look}
-use Rattle.tao_model.specs.FreshCopy.{OneCopy, FreshCopy}
+use Rattle.tao_model.specs.FreshCopy.{OneCopy}
 use Rattle.tao_model.proofs.RisingEntries.{look_low, look_here, look_on}
 use Rattle.tao_model.proofs.PlacedEntries.{all_found}
-use Rattle.tao_contents.specs.Counting.{entries_of, stash_and_nodes, AreOfTree, HasOneEntry, FreshCopyCounts}
+use Rattle.tao_contents.specs.Counting.{entries_of, AreOfTree, HasOneEntry, FreshCopyCounts}
 
 -- ---- one list
 

@@ -1,5 +1,5 @@
 -- Fresh copy as a count: exactly one entry of each block in the stash and all nodes.
-use Rattle.std.specs.Prelude.{◌≡◌, ℕ, ◌+◌, ◌<◌, ◌≤◌, ◌↔◌, ◌==◌, true, List, [], All, count_by, flat_map}
+use Rattle.std.specs.Prelude.{◌≡◌, ℕ, ◌+◌, ◌<◌, ◌↔◌, ◌==◌, true, List, [], All, count_by, flat_map}
 use Rattle.std.specs.List.{range_with_len}
 use Rattle.tao_base.specs.declared.storage.Entry.{Entry}
 use Rattle.tao_base.specs.Limits.{Shape}

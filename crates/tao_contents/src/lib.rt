@@ -3,5 +3,12 @@
 #![tactic(auto)]
 
 mod counting;
+mod fetches;
+mod moves;
 
 pub use counting::fresh_copy_counts;
+pub use fetches::{fake_fetch_keeps, fetch_finds, real_fetch_keeps, taking_in_keeps};
+pub use moves::{
+    eviction_keeps, fresh_alike, fresh_may_be_evicted, look_up_finds, put_is, put_is_found,
+    put_may_be_evicted,
+};
