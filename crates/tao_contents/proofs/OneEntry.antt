@@ -65,7 +65,7 @@ all_look Q b (e ∷ es) x all found = either (cases_eq e.id b)
 entries_next : (contents : ℕ → List Entry) (w : ℕ) (ws : List ℕ) (b : ℕ) → entries_of contents (w ∷ ws) b ≡ counted b (contents w) + entries_of contents ws b
 entries_next contents w ws b = sum_by-append (λ entry. cond (nat_eq entry.id b) 1 0) (contents w) (flat_map contents ws)
 
-none_of : (contents : ℕ → List Entry) (b a n : ℕ) → ((w : ℕ) → a ≤ w → w < a + n → look b (contents w) ≡ None) → entries_of contents (range_with_len a n) b ≡ 0
+pub none_of : (contents : ℕ → List Entry) (b a n : ℕ) → ((w : ℕ) → a ≤ w → w < a + n → look b (contents w) ≡ None) → entries_of contents (range_with_len a n) b ≡ 0
 none_of contents b a zero none = refl
 none_of contents b a (suc n) none =
     let next = entries_next contents a (range_with_len (a + 1) n) b in
@@ -73,11 +73,11 @@ none_of contents b a (suc n) none =
     let rest = none_of contents b (a + 1) n (λ w low high. none w (omega arith) (omega arith)) in
     omega arith
 
-one_of : (contents : ℕ → List Entry) (b a n node : ℕ) (x : List ℕ) → ((w : ℕ) → Rises 0 (contents w)) → a ≤ node → node < a + n
-    → look b (contents node) ≡ Some x → ((w : ℕ) → (w ≡ node → ⊥) → look b (contents w) ≡ None) → entries_of contents (range_with_len a n) b ≡ 1
+pub one_of : (contents : ℕ → List Entry) (b a n node : ℕ) (x : List ℕ) → ((w : ℕ) → Rises 0 (contents w)) → a ≤ node → node < a + n
+    → look b (contents node) ≡ Some x → ((w : ℕ) → a ≤ w → w < a + n → (w ≡ node → ⊥) → look b (contents w) ≡ None) → entries_of contents (range_with_len a n) b ≡ 1
 one_of contents b a zero node x rises low high there alone = absurd (omega arith)
 one_of contents b a (suc n) node x rises low high there alone = either (cases_eq a node)
-    (λ on. one_of contents b (a + 1) n node x rises (omega arith) (omega arith) there alone)
+    (λ on. one_of contents b (a + 1) n node x rises (omega arith) (omega arith) there (λ w above below. alone w (omega arith) (omega arith)))
   where
     next : entries_of contents (a ∷ range_with_len (a + 1) n) b ≡ counted b (contents a) + entries_of contents (range_with_len (a + 1) n) b
     next = entries_next contents a (range_with_len (a + 1) n) b
@@ -87,11 +87,11 @@ one_of contents b a (suc n) node x rises low high there alone = either (cases_eq
     either (inl here) ih =
         let all = next in
         let first = counted_found 0 b (contents a) x (rises a) (ap (λ w. look b (contents w)) here ∙ there) in
-        let rest = none_of contents b (a + 1) n (λ w above high. alone w (λ same. omega arith)) in
+        let rest = none_of contents b (a + 1) n (λ w above below. alone w (omega arith) (omega arith) (λ same. omega arith)) in
         omega arith
     either (inr on) ih =
         let all = next in
-        let first = counted_none b (contents a) (alone a on) in
+        let first = counted_none b (contents a) (alone a (omega arith) (omega arith) on) in
         let rest = ih on in
         omega arith
 
@@ -169,7 +169,7 @@ past_tree l contents tree b w high = ap (look b) (tree.within w high)
 
 to_count : (l leaf b : ℕ) (value : List ℕ) (contents : ℕ → List Entry) → AreOfTree l contents → OneCopy (is_on_path l leaf) value (λ w. look b (contents w)) → HasOneEntry l leaf b value contents
 to_count l leaf b value contents tree one = record {
-  count = one_of contents b 0 (node_count l + 1) one.node value tree.rises (omega arith) (within (cases_lt (node_count l) one.node)) one.there one.alone;
+  count = one_of contents b 0 (node_count l + 1) one.node value tree.rises (omega arith) (within (cases_lt (node_count l) one.node)) one.there (λ w above below. one.alone w);
   valued = λ w. All-weaker (λ entry. look entry.id (contents w) ≡ Some entry.value) (λ entry. entry.id ≡ b → entry.value ≡ value)
       (λ entry found here. valued w entry.value (sym (ap (λ id. look id (contents w)) here) ∙ found) (cases_eq w one.node)) (contents w) (all_found 0 (contents w) (tree.rises w));
   placed = λ w node. All-weaker (λ entry. look entry.id (contents w) ≡ Some entry.value) (λ entry. entry.id ≡ b → is_on_path l leaf w ≡ true)
