@@ -1,3 +1,4 @@
+pub mod Cleaned
 pub mod Current
 pub mod Fetched
 pub mod Looks

@@ -19,6 +19,13 @@ pub or_neither : (x y : Bool) → x ≡ false → y ≡ false → (x || y) ≡ f
 or_neither true y e f = e
 or_neither false y e f = f
 
+pub not_stash : (w : ℕ) → nat_eq w 0 ≡ false → 0 < w
+not_stash w off = either (cases_eq w 0)
+  where
+    either : (w ≡ 0) ⊎ (w ≡ 0 → ⊥) → 0 < w
+    either (inl stash) = absurd (true≢false (sym (eq-eqb w 0 stash) ∙ off))
+    either (inr node) = omega arith
+
 -- ---- the nodes of a path
 
 none_is_stash : (l at n a : ℕ) → a + n ≤ l + 1 → has 0 (map (node_at l at) (range_with_len a n)) ≡ false

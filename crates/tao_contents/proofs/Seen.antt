@@ -1,7 +1,7 @@
 -- When all is done, what is seen is the plain array.
 use Rattle.std.proofs.Common.{◌≡◌, ℕ, suc, ◌+◌, ◌<◌, Bool, true, false, ◌||◌, cond, List, [], ◌∷◌, map, length, Some, refl, sym, ap, ◌∙◌, arith, inl, inr, ◌⊎◌, nat_eq}
 use Rattle.std.specs.List.{slice_index_or, range_with_len}
-use Rattle.std.proofs.lemmas.Bool.{eq-eqb, cases_eq, true≢false}
+use Rattle.std.proofs.lemmas.Bool.{cases_eq}
 use Rattle.std.proofs.lemmas.Option.{none-some, same_Some}
 use Rattle.tao_base.specs.declared.storage.Entry.{Entry}
 use Rattle.tao_base.specs.Limits.{Shape}
@@ -12,20 +12,13 @@ use Rattle.tao_model.specs.FreshCopy.{OneCopy, FreshCopy, current_contents}
 use Rattle.tao_model.proofs.FallingPaths.{has}
 use Rattle.tao_contents.specs.Steps.{value_or_zeros}
 use Rattle.tao_contents.specs.FinalArray.{IsFinalLook, SeenIsFinal, FinalArray}
-use Rattle.tao_contents.proofs.Looks.{first_one}
+use Rattle.tao_contents.proofs.Looks.{not_stash, first_one}
 use Rattle.tao_contents.proofs.MovedCopies.{fresh_alike}
 
 read_cases : (z r : Bool) (o n m : List Entry) → (z ≡ false → r ≡ false → m ≡ n) → cond (z || r) o n ≡ cond (z || r) o m
 read_cases true r o n m honest = refl
 read_cases false true o n m honest = refl
 read_cases false false o n m honest = sym (honest refl refl)
-
-not_stash : (w : ℕ) → nat_eq w 0 ≡ false → 0 < w
-not_stash w off = either (cases_eq w 0)
-  where
-    either : (w ≡ 0) ⊎ (w ≡ 0 → ⊥) → 0 < w
-    either (inl stash) = absurd (true≢false (sym (eq-eqb w 0 stash) ∙ off))
-    either (inr node) = omega arith
 
 -- what is seen is fresh, and has the array's values
 seen_fresh : (s : Shape) (array : List (List ℕ)) (leaf : ℕ → ℕ) (value : ℕ → List ℕ) (resident : ℕ → Bool) (own newest read : ℕ → List Entry)

@@ -12,7 +12,8 @@ use Rattle.tao_model.proofs.FallingPaths.{has, has_below, has_reverse, on_path_h
 use Rattle.tao_model.proofs.PlacedEntries.{all_found}
 use Rattle.tao_contents.specs.Counting.{entries_of}
 use Rattle.tao_contents.specs.WriteBackLaws.{IssueKeeps, AcknowledgementKeeps, IsWrittenOnce, IsUnwritten, WriteBackIsFresh, HasAtMostOne, FreshWritesCount}
-use Rattle.tao_contents.proofs.Looks.{on_path_is_node, inside_stash, inside_path}
+use Rattle.tao_contents.proofs.Cleaned.{current_is_written}
+use Rattle.tao_contents.proofs.Looks.{not_stash, on_path_is_node, inside_stash, inside_path}
 use Rattle.tao_contents.proofs.MovedCopies.{fresh_alike}
 use Rattle.tao_contents.proofs.OneEntry.{none_of, one_of}
 
@@ -29,31 +30,22 @@ issue_keeps s leaf value resident issued own newest newest' held same =
     fresh_alike s leaf leaf value value (current_contents resident own newest) (current_contents resident own newest') (λ b below. refl) (λ b below. refl)
     (λ w b below. ap (look b) (issue_cases (nat_eq w 0) (resident w) (issued w) (own w) (newest w) (newest' w) (held w) (same w)))
 
-go_cases : (z r d : Bool) (o p n : List Entry) → (r ≡ true → d ≡ true → o ≡ n) → (z ≡ true → p ≡ o) → (r ≡ true → d ≡ false → p ≡ o)
+go_cases : (z r d : Bool) (o p n : List Entry) → (z ≡ false → r ≡ true → d ≡ true → o ≡ n) → (z ≡ true → p ≡ o) → (r ≡ true → d ≡ false → p ≡ o)
     → cond (z || r) o n ≡ cond (z || (r && not d)) p n
 go_cases true r d o p n clean stash stays = sym (stash refl)
-go_cases false true true o p n clean stash stays = clean refl refl
+go_cases false true true o p n clean stash stays = clean refl refl refl
 go_cases false true false o p n clean stash stays = sym (stays refl refl)
 go_cases false false d o p n clean stash stays = refl
 
 pub acknowledgement_keeps : AcknowledgementKeeps
 acknowledgement_keeps s leaf value resident departs own own' newest clean goes =
     fresh_alike s leaf leaf value value (current_contents resident own newest) (current_contents (λ w. resident w && not (departs w)) own' newest) (λ b below. refl) (λ b below. refl)
-    (λ w b below. ap (look b) (go_cases (nat_eq w 0) (resident w) (departs w) (own w) (own' w) (newest w) (clean w) (λ stash. at_stash w (eqb-true w 0 stash)) (goes.stays w)))
+    (λ w b below. ap (look b) (go_cases (nat_eq w 0) (resident w) (departs w) (own w) (own' w) (newest w) (λ node. clean w (not_stash w node)) (λ stash. at_stash w (eqb-true w 0 stash)) (goes.stays w)))
   where
     at_stash : (w : ℕ) → w ≡ 0 → own' w ≡ own w
     at_stash w stash = ap own' stash ∙ goes.stash ∙ sym (ap own stash)
 
 -- ---- what is written
-
--- where all that is held is as it was last written, so is every node
-all_written : (resident : ℕ → Bool) (own newest : ℕ → List Entry) → ((w : ℕ) → resident w ≡ true → own w ≡ newest w)
-    → (w : ℕ) → 0 < w → current_contents resident own newest w ≡ newest w
-all_written resident own newest clean w low = ap (λ t. cond (t || resident w) (own w) (newest w)) (ne_eqb w 0 (λ same. omega arith)) ∙ either (resident w) refl
-  where
-    either : (t : Bool) → resident w ≡ t → cond t (own w) (newest w) ≡ newest w
-    either true held = clean w held
-    either false away = refl
 
 -- a node of a path is a node of the tree
 pub on_path_within : (l at w : ℕ) → at < 2 ^ l → is_on_path l at w ≡ true → w ≤ node_count l
@@ -64,7 +56,7 @@ pub write_back_is_fresh : WriteBackIsFresh
 write_back_is_fresh s at leaf value resident old own newest small holds is clean fresh b below = either (fresh b below) (fresh b below).lies
   where
     written : (w : ℕ) → 0 < w → look b (current_contents resident own newest w) ≡ look b (newest w)
-    written w low = ap (look b) (all_written resident own newest clean w low)
+    written w low = ap (look b) (current_is_written resident own newest clean w low)
 
     -- a block whose entry is in the stash was left there for want of room
     shown : (w : ℕ) → has w (0 ∷ path s.l at) ≡ true → cond (has w (0 ∷ path s.l at)) (own w) [] ≡ own w
@@ -90,7 +82,7 @@ write_back_is_fresh s at leaf value resident old own newest small holds is clean
         and_from (is_some (first_copy (0 ∷ path s.l at) old b)) (has w (path s.l at) && is_on_path s.l (leaf b) w) stash.1
         (and_from (has w (path s.l at)) (is_on_path s.l (leaf b) w) (sym (on_path_has s.l at w) ∙ shared) on) in
         let P : List Entry → Type 0 = λ entries. (length entries ≡ s.z) × All (λ entry. entry.id < b) entries in
-        subst P (shown w (inside_path s.l at w shared) ∙ clean w (holds w shared)) (is.placed.full b w (on_path_within s.l at w small shared) may deeper)
+        subst P (shown w (inside_path s.l at w shared) ∙ clean w low (holds w shared)) (is.placed.full b w (on_path_within s.l at w small shared) may deeper)
 
     either : OneCopy (is_on_path s.l (leaf b)) (value b) (λ w. look b (current_contents resident own newest w)) → ((fresh b below).node ≡ 0) ⊎ (is_on_path s.l (leaf b) (fresh b below).node ≡ true)
         → IsWrittenOnce (is_on_path s.l (leaf b)) b (value b) newest ⊎ IsUnwritten (is_on_path s.l (leaf b)) (is_on_path s.l at) s.z b newest

@@ -7,6 +7,7 @@ use Rattle.tao_base.specs.Tree.{node_count, path, is_on_path}
 use Rattle.tao_model.specs.Placement.{Rises, look, IsEvicted}
 use Rattle.tao_model.specs.FreshCopy.{FreshCopy, current_contents}
 use Rattle.tao_contents.specs.Counting.{entries_of}
+use Rattle.tao_contents.specs.CleanLaws.{AreAllClean}
 
 -- a write-back of nodes that the proxy holds moves no entry, whatever it writes there
 abbrev pub IssueKeeps : Type 0
@@ -22,7 +23,7 @@ pub record LetsGo (resident departs : ℕ → Bool) (own own' : ℕ → List Ent
 -- an acknowledgement that lets nodes go, each as it was last written, moves no entry
 abbrev pub AcknowledgementKeeps : Type 0
 AcknowledgementKeeps = (s : Shape) (leaf : ℕ → ℕ) (value : ℕ → List ℕ) (resident departs : ℕ → Bool) (own own' newest : ℕ → List Entry)
-    → ((w : ℕ) → resident w ≡ true → departs w ≡ true → own w ≡ newest w) → LetsGo resident departs own own'
+    → ((w : ℕ) → 0 < w → resident w ≡ true → departs w ≡ true → own w ≡ newest w) → LetsGo resident departs own own'
     → FreshCopy s leaf value (current_contents resident own newest) → FreshCopy s leaf value (current_contents (λ w. resident w && not (departs w)) own' newest)
 
 -- ---- what is written
@@ -44,11 +45,11 @@ pub record IsUnwritten (on_path filled : ℕ → Bool) (z b : ℕ) (newest : ℕ
 abbrev pub FreshWrites : Shape → (ℕ → ℕ) → (ℕ → List ℕ) → (ℕ → Bool) → (ℕ → List Entry) → Type 0
 FreshWrites s leaf value filled newest = (b : ℕ) → b < s.n → IsWrittenOnce (is_on_path s.l (leaf b)) b (value b) newest ⊎ IsUnwritten (is_on_path s.l (leaf b)) filled s.z b newest
 
--- Directly after a write-back, when all that the proxy holds is as it was last written, the writes are fresh. Just filled are the nodes of the
--- path that was evicted last.
+-- Directly after a write-back, when every node that the proxy holds is clean, the writes are fresh. Just filled are the nodes of the path
+-- that was evicted last.
 abbrev pub WriteBackIsFresh : Type 0
 WriteBackIsFresh = (s : Shape) (at : ℕ) (leaf : ℕ → ℕ) (value : ℕ → List ℕ) (resident : ℕ → Bool) (old own newest : ℕ → List Entry) → at < 2 ^ s.l
-    → ((w : ℕ) → is_on_path s.l at w ≡ true → resident w ≡ true) → IsEvicted s (path s.l at) leaf old own → ((w : ℕ) → resident w ≡ true → own w ≡ newest w)
+    → ((w : ℕ) → is_on_path s.l at w ≡ true → resident w ≡ true) → IsEvicted s (path s.l at) leaf old own → AreAllClean resident own newest
     → FreshCopy s leaf value (current_contents resident own newest) → FreshWrites s leaf value (is_on_path s.l at) newest
 
 -- fresh writes as a count: at most one entry of the block in all nodes, with this value, on the path

@@ -2,6 +2,7 @@
 //! There is no code but the laws: functions with empty bodies whose contract is the law.
 #![tactic(auto)]
 
+mod clean;
 mod counting;
 mod fetches;
 mod final_look;
@@ -9,6 +10,10 @@ mod moves;
 mod openings;
 mod write_backs;
 
+pub use clean::{
+    acknowledgement_keeps_clean, current_is_written, fake_fetch_keeps_clean, issue_cleans,
+    real_fetch_keeps_clean,
+};
 pub use counting::fresh_copy_counts;
 pub use fetches::{fake_fetch_keeps, fetch_finds, real_fetch_keeps, taking_in_keeps};
 pub use final_look::{final_array, seen_is_final};
