@@ -1,0 +1,6 @@
+pub mod Followed
+pub mod KeptQueues
+pub mod OrderSteps
+pub mod PlainAnswers
+pub mod QueueTurns
+pub mod SettledLists
