@@ -2,8 +2,8 @@
 use Rattle.std.proofs.Common.{◌≡◌, ℕ, zero, suc, ◌+◌, ◌<◌, ◌≤◌, Bool, true, false, not, ◌&&◌, ◌||◌, List, [], ◌∷◌, ◌++◌, reverse, length, map, take, Option, Some, None, is_some, is_none, refl, ap, sym, ◌∙◌, subst, arith, inl, inr, ◌⊎◌, get_or}
 use Rattle.std.specs.Prelude.{if◌then◌else◌}
 use Rattle.std.specs.List.{list_any}
-use Rattle.std.proofs.lemmas.Bool.{true≢false, ne_eqb, eq-eqb, eqb-true, cases_lt, cases_eq}
-use Rattle.std.proofs.lemmas.List.{reverse-reverse, get_or_append_left, get_or_push, length_push, get_or-map, map-append, length-map, take_all}
+use Rattle.std.proofs.lemmas.Bool.{true≢false, ne_eqb, eq-eqb, cases_lt, cases_eq}
+use Rattle.std.proofs.lemmas.List.{reverse-reverse, get_or-map, map-append, length-map, take_all}
 use Rattle.std.proofs.lemmas.List.Folds.{list_any_more}
 use Rattle.tao_base.specs.Session.{Opening}
 use Rattle.tao_base.specs.declared.calls.Op.{Op}
@@ -18,10 +18,9 @@ use Rattle.tao_model.specs.Replies.{op_of, ops}
 use Rattle.tao_model.specs.Lawful.{FollowsLawfully}
 use Rattle.tao_model.specs.LookBacks.{is_real_on}
 use Rattle.tao_model.proofs.DonesInOrder.{picked_more, picked_same}
-use Rattle.tao_model.proofs.LastReal.{settler_is_last}
 use Rattle.tao_model.proofs.Places.{done_arrived}
 use Rattle.tao_model.proofs.PlainArrays.{ops_listed}
-use Rattle.tao_model.proofs.RealArrivals.{none_passes, free_means, real_newest, on_newest, earlier_done}
+use Rattle.tao_model.proofs.RealArrivals.{free_means, real_newest, on_newest, earlier_done}
 use Rattle.tao_model.proofs.Stays.{newest_first, on_stays, pad_stays, real_stays, settler_stays}
 use Rattle.tao_requests.specs.declared.request.Kind.{Kind}
 use Rattle.tao_requests.specs.declared.request.Kind.TheVariants.{Real, Fake}
@@ -30,42 +29,10 @@ use Rattle.tao_requests.specs.State.{is_real_kind, waits, is_under_way, kind_on,
 use Rattle.tao_requests.specs.Settling.{settled_from}
 use Rattle.tao_requests.specs.Queues.{is_on_at}
 use Rattle.tao_requests.specs.Laws.{Follows, KindIsReal, FollowsNone, FollowsArrive, FollowsReal, FollowsFake, FollowsFurther}
-use Rattle.tao_requests.proofs.SettledLists.{on_within, settled_off, settled_there, settled_same, settled_ops}
-use Rattle.tao_requests.proofs.KeptQueues.{names_one, own_block, new_at, old_at}
-
--- ---- the operation of an arrival
-
-pub on_listed : (es : List Event) (i block : ℕ) → i < arrived es → is_on es i block ≡ names block (get_or (ops (reverse es)) i Pad)
-on_listed [] i block below = absurd (omega arith)
-on_listed (Arrive client op word ∷ es) i block below =
-    which (cases_eq i (arrived es)) (λ older. on_listed es i block older)
-  where
-    which : (i ≡ arrived es) ⊎ (i ≡ arrived es → ⊥) → (i < arrived es → is_on es i block ≡ names block (get_or (ops (reverse es)) i Pad))
-        → is_on (Arrive client op word ∷ es) i block ≡ names block (get_or (ops (reverse (Arrive client op word ∷ es))) i Pad)
-    which (inl e) ih = rw (eq-eqb i (arrived es) e) (ap (names block) (sym (get_or_push (ops (reverse es)) op Pad i (ops_listed es ∙ sym e))
-        ∙ ap (λ l. get_or l i Pad) (sym (picked_more op_of es (Arrive client op word)))))
-    which (inr e) ih = rw (ne_eqb i (arrived es) e) (ih (omega (arith, e)) ∙ ap (names block) (sym (get_or_append_left (ops (reverse es)) (op ∷ []) Pad i (omega (arith, e, ops_listed es)))
-        ∙ ap (λ l. get_or l i Pad) (sym (picked_more op_of es (Arrive client op word)))))
-on_listed (Done arrival taken ∷ es) i block below = on_listed es i block below ∙ ap (λ l. names block (get_or l i Pad)) (sym (picked_same op_of es (Done arrival taken) refl))
-on_listed (Issue version nonce buckets ∷ es) i block below = on_listed es i block below ∙ ap (λ l. names block (get_or l i Pad)) (sym (picked_same op_of es (Issue version nonce buckets) refl))
-on_listed (Acked version ∷ es) i block below = on_listed es i block below ∙ ap (λ l. names block (get_or l i Pad)) (sym (picked_same op_of es (Acked version) refl))
-on_listed (Fault cause ∷ es) i block below = on_listed es i block below ∙ ap (λ l. names block (get_or l i Pad)) (sym (picked_same op_of es (Fault cause) refl))
-
-pub pad_listed : (es : List Event) (i : ℕ) → i < arrived es → is_pad es i ≡ is_pad_op (get_or (ops (reverse es)) i Pad)
-pad_listed [] i below = absurd (omega arith)
-pad_listed (Arrive client op word ∷ es) i below =
-    which (cases_eq i (arrived es)) (λ older. pad_listed es i older)
-  where
-    which : (i ≡ arrived es) ⊎ (i ≡ arrived es → ⊥) → (i < arrived es → is_pad es i ≡ is_pad_op (get_or (ops (reverse es)) i Pad))
-        → is_pad (Arrive client op word ∷ es) i ≡ is_pad_op (get_or (ops (reverse (Arrive client op word ∷ es))) i Pad)
-    which (inl e) ih = rw (eq-eqb i (arrived es) e) (ap is_pad_op (sym (get_or_push (ops (reverse es)) op Pad i (ops_listed es ∙ sym e))
-        ∙ ap (λ l. get_or l i Pad) (sym (picked_more op_of es (Arrive client op word)))))
-    which (inr e) ih = rw (ne_eqb i (arrived es) e) (ih (omega (arith, e)) ∙ ap is_pad_op (sym (get_or_append_left (ops (reverse es)) (op ∷ []) Pad i (omega (arith, e, ops_listed es)))
-        ∙ ap (λ l. get_or l i Pad) (sym (picked_more op_of es (Arrive client op word)))))
-pad_listed (Done arrival taken ∷ es) i below = pad_listed es i below ∙ ap (λ l. is_pad_op (get_or l i Pad)) (sym (picked_same op_of es (Done arrival taken) refl))
-pad_listed (Issue version nonce buckets ∷ es) i below = pad_listed es i below ∙ ap (λ l. is_pad_op (get_or l i Pad)) (sym (picked_same op_of es (Issue version nonce buckets) refl))
-pad_listed (Acked version ∷ es) i below = pad_listed es i below ∙ ap (λ l. is_pad_op (get_or l i Pad)) (sym (picked_same op_of es (Acked version) refl))
-pad_listed (Fault cause ∷ es) i below = pad_listed es i below ∙ ap (λ l. is_pad_op (get_or l i Pad)) (sym (picked_same op_of es (Fault cause) refl))
+use Rattle.tao_requests.proofs.SettledLists.{settled_off, settled_there, settled_same, settled_ops}
+use Rattle.tao_requests.proofs.KeptQueues.{own_block}
+use Rattle.tao_requests.proofs.NewRequests.{names_one, new_at, old_at}
+use Rattle.tao_requests.proofs.Arrivals.{on_listed, pad_listed, no_pad, settler_last, both, and_both, settles_itself, pad_fake}
 
 -- ---- the relation, looked back on
 
@@ -96,34 +63,6 @@ pub pad_is : (es : List Event) (rs : List Request) → Following es rs → (i : 
 pad_is es rs f i below = pad_listed es i below ∙ ap is_pad_op (op_is es rs f i below)
 
 -- ---- settlers
-
-no_pad : (block : ℕ) (op : Op) → names block op ≡ true → is_pad_op op ≡ false
-no_pad block (Read b) e = refl
-no_pad block (Write b value) e = refl
-no_pad block Pad e = absurd (true≢false (sym e))
-
-pub settler_last : (es : List Event) (i block : ℕ) → i < arrived es → is_on es i block ≡ true → IsLast (is_real_on es block) (i + 1) (Some (settler es i))
-settler_last es i block below on = subst (λ l. IsLast (is_real_on l block) (i + 1) (Some (settler l i))) (reverse-reverse es)
-    (settler_is_last (reverse es) i block (subst (λ l. i < arrived l) (sym (reverse-reverse es)) below) (subst (λ l. is_on l i block ≡ true) (sym (reverse-reverse es)) on))
-
-both : (x y : Bool) → (x && y) ≡ true → (x ≡ true) × (y ≡ true)
-both true true e = (refl, refl)
-both true false e = absurd (true≢false (sym e))
-both false y e = absurd (true≢false (sym e))
-
-and_both : (x y : Bool) → x ≡ true → y ≡ true → (x && y) ≡ true
-and_both x y e f = rw (e, f) refl
-
--- a real arrival settles itself
-pub settles_itself : (es : List Event) (i block : ℕ) → i < arrived es → is_on es i block ≡ true → is_real es i ≡ true → settler es i ≡ i
-settles_itself es i block below on real = which (cases_lt (settler es i) i)
-  where
-    last : IsLast (is_real_on es block) (i + 1) (Some (settler es i))
-    last = settler_last es i block below on
-
-    which : (settler es i < i) ⊎ (i ≤ settler es i) → settler es i ≡ i
-    which (inl low) = absurd (true≢false (sym (and_both (is_real es i) (is_on es i block) real on) ∙ last.2 i low (omega arith)))
-    which (inr high) = let low : settler es i < i + 1 = last.0 in omega arith
 
 pub settled_on : (es : List Event) (rs : List Request) → Following es rs → (i block : ℕ) → i < arrived es → is_on es i block ≡ true → is_settled es i ≡ is_done es (settler es i)
 settled_on es rs f i block below on = rw (pad_is es rs f i below ∙ no_pad block (request_at rs i).op (sym (on_is es rs f i block below) ∙ on)) refl
@@ -341,23 +280,6 @@ under_way es rs i f below real pad undone = record {
     none : (a : Option (List ℕ)) → is_some a ≡ false → a ≡ None
     none None e = refl
     none (Some v) e = absurd (true≢false e)
-
-pad_fake : (es : List Event) (i : ℕ) → is_real es i ≡ true → is_pad es i ≡ false
-pad_fake [] i e = absurd (true≢false (sym e))
-pad_fake (Arrive client op word ∷ es) i e = which (cases_eq i (arrived es)) (pad_fake es i)
-  where
-    free_no_pad : (x : Op) → real_now es x ≡ true → is_pad_op x ≡ false
-    free_no_pad (Read b) r = refl
-    free_no_pad (Write b value) r = refl
-    free_no_pad Pad r = absurd (true≢false (sym r))
-
-    which : (i ≡ arrived es) ⊎ (i ≡ arrived es → ⊥) → (is_real es i ≡ true → is_pad es i ≡ false) → is_pad (Arrive client op word ∷ es) i ≡ false
-    which (inl at) ih = rw (eq-eqb i (arrived es) at) (free_no_pad op (sym (rw (eq-eqb i (arrived es) at) refl) ∙ e))
-    which (inr at) ih = rw (ne_eqb i (arrived es) at) (ih (sym (rw (ne_eqb i (arrived es) at) refl) ∙ e))
-pad_fake (Done arrival taken ∷ es) i e = pad_fake es i e
-pad_fake (Issue version nonce buckets ∷ es) i e = pad_fake es i e
-pad_fake (Acked version ∷ es) i e = pad_fake es i e
-pad_fake (Fault cause ∷ es) i e = pad_fake es i e
 
 real_done : (es : List Event) (rs : List Request) (i : ℕ) (taken : List Bucket) (value : List ℕ) → Following es rs → i < arrived es → is_real es i ≡ true → is_done es i ≡ false
     → Following (Done i taken ∷ es) (settled_from i (block_of rs i) value rs)

@@ -1,5 +1,5 @@
 -- One turn of settling a queue: the request of a number is answered, and the next on its block comes.
-use Rattle.std.proofs.Common.{◌≡◌, ℕ, zero, suc, ◌+◌, ◌-◌, ◌<◌, ◌≤◌, Bool, true, false, List, [], ◌∷◌, ◌++◌, length, take, drop, refl, ap, sym, ◌∙◌, subst, arith, inl, inr, ◌⊎◌, length-set, Option, Some, None}
+use Rattle.std.proofs.Common.{◌≡◌, ℕ, suc, ◌+◌, ◌-◌, ◌<◌, ◌≤◌, true, false, List, [], length, drop, ap, sym, ◌∙◌, arith, inl, inr, ◌⊎◌, length-set, None}
 use Rattle.std.specs.List.{slice_index_or}
 use Rattle.std.proofs.Math.ListN.{set}
 use Rattle.std.proofs.lemmas.Bool.{true≢false, cases_eq}
@@ -12,8 +12,8 @@ use Rattle.tao_model.specs.Events.{names}
 use Rattle.tao_requests.specs.declared.request.Kind.TheVariants.{Fake}
 use Rattle.tao_requests.specs.State.{request_at, request_of}
 use Rattle.tao_requests.specs.Rooms.{FitsIn}
-use Rattle.tao_requests.specs.Settling.{answered, value_after, answered_all, value_after_all, settled_from, value_from}
-use Rattle.tao_requests.specs.Queues.{is_on_at, wait_at, IsQueue, LeavesOthers}
+use Rattle.tao_requests.specs.Settling.{answered, value_after, settled_from, value_from}
+use Rattle.tao_requests.specs.Queues.{is_on_at, wait_at, LeavesOthers}
 use Rattle.tao_requests.proofs.SettledLists.{on_within, settled_on, value_on, settled_up_to, value_up_to, settled_none, value_none}
 
 -- what two lists have from a number on is the same

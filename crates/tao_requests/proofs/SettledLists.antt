@@ -1,11 +1,11 @@
 -- Settling from a number on: one request more, and over requests that are on other blocks.
-use Rattle.std.proofs.Common.{◌≡◌, ℕ, zero, suc, ◌+◌, ◌<◌, ◌≤◌, Bool, true, false, List, [], ◌∷◌, ◌++◌, length, map, take, drop, refl, ap, sym, ◌∙◌, subst, arith, inl, inr, ◌⊎◌, add-one}
+use Rattle.std.proofs.Common.{◌≡◌, ℕ, zero, suc, ◌+◌, ◌<◌, ◌≤◌, Bool, true, false, List, [], ◌∷◌, length, map, refl, ap, sym, ◌∙◌, arith, inl, inr, ◌⊎◌}
 use Rattle.std.proofs.Math.ListN.{set}
 use Rattle.std.proofs.lemmas.Bool.{true≢false, cases_lt}
 use Rattle.tao_requests.specs.declared.request.Request.{Request}
 use Rattle.tao_model.specs.Events.{names}
 use Rattle.tao_requests.specs.State.{request_at}
-use Rattle.tao_requests.specs.Settling.{answered, value_after, answered_all, value_after_all, settled_from, value_from}
+use Rattle.tao_requests.specs.Settling.{answered, value_after, settled_from, value_from}
 use Rattle.tao_requests.specs.Queues.{is_on_at}
 
 pub on_within : (block n : ℕ) (rs : List Request) → is_on_at rs block n ≡ true → n < length rs

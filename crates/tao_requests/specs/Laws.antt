@@ -1,5 +1,5 @@
 -- Laws: the answers are the plain array's, and the requests are those of a record's arrivals. A record's events are oldest first.
-use Rattle.std.specs.Prelude.{◌≡◌, ℕ, ◌+◌, ◌<◌, Bool, true, false, List, [], ◌∷◌, ◌++◌, map, take, drop, length, reverse, Option, Some, is_some}
+use Rattle.std.specs.Prelude.{◌≡◌, ℕ, ◌+◌, ◌<◌, true, false, List, [], ◌∷◌, ◌++◌, map, take, drop, length, reverse, Some, is_some}
 use Rattle.tao_base.specs.Array.{block_at, array_after, array_reply}
 use Rattle.tao_base.specs.Session.{Opening}
 use Rattle.tao_base.specs.declared.calls.Op.{Op}

@@ -1,5 +1,5 @@
 -- How the queues of the blocks are kept: for each block the last request in its queue, and in each request that waits the next one.
-use Rattle.std.specs.Prelude.{◌≡◌, ℕ, ◌+◌, ◌<◌, ◌≤◌, Bool, true, false, List, [], ◌∷◌, length, slice_set, Option, Some, None, IfSome, All, ⊤}
+use Rattle.std.specs.Prelude.{◌≡◌, ℕ, ◌+◌, ◌<◌, ◌≤◌, Bool, true, false, List, [], length, slice_set, Option, Some, None, IfSome, All, ⊤}
 use Rattle.std.specs.List.{slice_index_or}
 use Rattle.tao_base.specs.Limits.{Shape, IsShape}
 use Rattle.tao_base.specs.declared.calls.Op.{Op}

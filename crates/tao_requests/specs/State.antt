@@ -1,10 +1,10 @@
 -- What contracts see of the requests of a session: each with its kind and, once it is settled, its answer.
-use Rattle.std.specs.Prelude.{◌≡◌, ℕ, ◌+◌, ◌-◌, ◌<◌, Bool, true, false, ◌&&◌, if◌then◌else◌, List, [], ◌∷◌, ◌++◌, length, Option, Some, None, is_none}
+use Rattle.std.specs.Prelude.{◌≡◌, ℕ, ◌-◌, Bool, true, false, ◌&&◌, if◌then◌else◌, List, [], ◌∷◌, ◌++◌, Option, Some, None, is_none}
 use Rattle.std.specs.List.{slice_index_or, list_any}
 use Rattle.tao_base.specs.Limits.{Shape}
 use Rattle.tao_base.specs.declared.calls.Op.{Op}
 use Rattle.tao_base.specs.declared.calls.Op.TheVariants.{Read, Write, Pad}
-use Rattle.tao_model.specs.Events.{names, is_pad_op}
+use Rattle.tao_model.specs.Events.{names}
 use Rattle.tao_requests.specs.declared.request.Kind.{Kind}
 use Rattle.tao_requests.specs.declared.request.Kind.TheVariants.{Real, Fake}
 use Rattle.tao_requests.specs.declared.request.Request.{Request}

@@ -1,6 +1,6 @@
-use Rattle.std.proofs.Common.{◌≡◌, ℕ, ◌+◌, ◌-◌, ◌<◌, ◌≤◌, true, length, Some, None, refl, length-set, ◌∙◌, sym, arith, rules}
+use Rattle.std.proofs.Common.{◌≡◌, ◌<◌, length, Some, None, refl, length-set, ◌∙◌, sym, arith}
 use Rattle.tao_requests.specs.State.{block_of}
-use Rattle.tao_requests.specs.Queues.{is_on_at, wait_at}
+use Rattle.tao_requests.specs.Queues.{wait_at}
 use Rattle.tao_requests.proofs.SettledLists.{on_within}
 use Rattle.tao_requests.proofs.QueueTurns.{Turn, turn_len, goes_on, comes_to_end, next_same, leaves_more, drops_edit}
 use Rattle.tao_requests.proofs.settling.settle_queue.Goals as goal

@@ -1,10 +1,11 @@
-use Rattle.std.proofs.Common.{◌≡◌, ◌+◌, ◌-◌, ◌<◌, ℕ, [], ◌∷◌, ◌++◌, Option, Some, None, length, sym, ap, subst, ◌∙◌, arith}
+use Rattle.std.proofs.Common.{◌≡◌, ◌-◌, [], ◌∷◌, ◌++◌, None, length, sym, ap, subst, ◌∙◌, arith}
 use Rattle.std.specs.Vec.{vec_len}
 use Rattle.tao_model.specs.Lawful.{IsInRange}
 use Rattle.tao_requests.specs.declared.queues.Wait.{Wait}
-use Rattle.tao_requests.specs.State.{RequestsState, request_of, kind_now, first_answer, begun}
+use Rattle.tao_requests.specs.State.{RequestsState, kind_now, first_answer, begun}
 use Rattle.tao_requests.specs.Queues.{kind_entering, lasts_entered, waits_entered}
-use Rattle.tao_requests.proofs.KeptQueues.{kept_begun, kind_is_now, can_enter, lent_whole, same_request, same_state, room_fits}
+use Rattle.tao_requests.proofs.KeptQueues.{lent_whole, same_request, same_state, room_fits}
+use Rattle.tao_requests.proofs.NewRequests.{kept_begun, kind_is_now, can_enter}
 use Rattle.tao_requests.proofs.requests.Requests.begin.Goals as goal
 
 pub enter-kind-requires : goal.enter-kind-requires

@@ -1,4 +1,4 @@
-use Rattle.std.proofs.Common.{◌≡◌, ◌<◌, ℕ, IsSome, length, sym, ap, subst, ◌∙◌, arith}
+use Rattle.std.proofs.Common.{◌≡◌, ◌<◌, IsSome, length, sym, ap, subst, ◌∙◌}
 use Rattle.std.proofs.lemmas.List.{get_or_read}
 use Rattle.tao_base.specs.declared.calls.Op.TheVariants.{Pad}
 use Rattle.tao_requests.specs.declared.request.Kind.TheVariants.{Fake}
