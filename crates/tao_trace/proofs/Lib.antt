@@ -6,4 +6,6 @@ pub mod Ranges
 pub mod Starts
 pub mod Steps
 pub mod Texts
+pub mod ToldRecord
+pub mod WholeLines
 pub mod WholeText

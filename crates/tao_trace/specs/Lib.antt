@@ -1,2 +1,4 @@
 pub mod Printing
 pub mod Tables
+pub mod Told
+pub mod WholeLines

@@ -10,6 +10,9 @@ mod printer;
 mod tables;
 
 pub use close::{print_block, print_final, print_scan};
-pub use laws::{lines_go_on, text_is_printed};
+pub use laws::{lines_are_whole, lines_go_on, text_is_printed};
 pub use opening::print_opening;
 pub use printer::{Printer, print_event};
+
+#[cfg(test)]
+mod tests;

@@ -1,5 +1,5 @@
 -- How the commands end: each with a last line and a status, and with what has then become of the source.
-use Rattle.std.specs.Prelude.{◌≡◌, ◌⊎◌, ℕ, ◌+◌, ◌^◌, List, [], ◌∷◌, ◌++◌, take, reverse, codes, Option, Some, None, ⊤}
+use Rattle.std.specs.Prelude.{◌≡◌, ◌⊎◌, ℕ, ◌+◌, ◌^◌, List, [], ◌∷◌, ◌++◌, take, reverse, codes, Option, Some, None, IfSome}
 use Rattle.std.specs.Option.{option_map}
 use Rattle.std.specs.Io.KnownBytes.{Consumes, IsAtEnd}
 use Rattle.tao_base.specs.Session.{History}
@@ -7,6 +7,7 @@ use Rattle.tao_model.specs.Replies.{array_now}
 use Rattle.tao_model.specs.Transcript.{transcript}
 use Rattle.tao_record.specs.State.{RecordState}
 use Rattle.tao_text.specs.Scripts.{script_of}
+use Rattle.tao_trace.specs.WholeLines.{AreFirstLines}
 use Rattle.tao_text.specs.declared.script.Script.{Script}
 use Rattle.tao_base.specs.Causes.{Rose}
 use Rattle.taostore.specs.declared.output.End.{End}
@@ -43,25 +44,37 @@ RefusedEnds NoMemory text = text ≡ end_line NoMemory
 abbrev pub kept_history : Option RecordState → Option History
 kept_history kept = option_map (λ r. r.history) kept
 
--- the record as far as it came, where memory ran out; before the session was opened there is none
-abbrev pub KeepsPart : Script → Option History → Type 0
-KeepsPart script None = ⊤
-KeepsPart script (Some session) = (count : ℕ) × IsPlayed script (take count script.steps) session
+-- how the text of a session ends that was played to its end: with its whole transcript, or where memory runs out with whole lines of it
+abbrev pub SessionEnds : History → List (List ℕ) → End → List ℕ → Type 0
+SessionEnds h blocks Done text = text ≡ transcript h 0 (Some blocks) (end_line Done)
+SessionEnds h blocks Refused text = ⊥
+SessionEnds h blocks Unbuilt text = ⊥
+SessionEnds h blocks SourceFailed text = ⊥
+SessionEnds h blocks NoMemory text = (lines : List ℕ) × AreFirstLines lines (transcript h 0 (Some blocks) []) × (text ≡ lines ++ end_line NoMemory)
 
--- all was played: the record is kept, and the text is its whole transcript
-pub record KeepsAll (script : Script) (kept : Option History) (text : List ℕ) : Type 0 where
+-- the array after all arrivals of a session
+abbrev pub final_array : History → List (List ℕ)
+final_array session = array_now session.opening (reverse session.events)
+
+-- all was played: the record is kept, and its text ends so
+pub record KeepsAll (script : Script) (kept : Option History) (end : End) (text : List ℕ) : Type 0 where
   pub session : History
   pub keeps : kept ≡ Some session
   pub played : IsPlayed script script.steps session
-  pub told : text ≡ transcript session 0 (Some (array_now session.opening (reverse session.events))) (end_line Done)
+  pub told : SessionEnds session (final_array session) end text
+
+-- memory ran out before all was played: the record as far as it came is kept, or none where no session was opened; nothing of it is told
+pub record KeepsPart (script : Script) (kept : Option History) (text : List ℕ) : Type 0 where
+  pub part : IfSome kept (λ session. (count : ℕ) × IsPlayed script (take count script.steps) session)
+  pub told : text ≡ end_line NoMemory
 
 -- how the play of a script ends, what it keeps, and its text
 abbrev pub ScriptEnds : Script → Option History → End → List ℕ → Type 0
-ScriptEnds script kept Done text = KeepsAll script kept text
+ScriptEnds script kept Done text = KeepsAll script kept Done text
 ScriptEnds script kept Refused text = ⊥
 ScriptEnds script kept Unbuilt text = ⊥
 ScriptEnds script kept SourceFailed text = ⊥
-ScriptEnds script kept NoMemory text = KeepsPart script kept × (text ≡ end_line NoMemory)
+ScriptEnds script kept NoMemory text = KeepsPart script kept text ⊎ KeepsAll script kept NoMemory text
 
 module _ {S : Type 0} (left : S → Option (List ℕ)) (faults : S → ℕ) (old new : S) where
   -- all that the source had left is the script
@@ -85,7 +98,7 @@ module _ {S : Type 0} (left : S → Option (List ℕ)) (faults : S → ℕ) (old
   PlayEnds kept Refused text = ⊥
   PlayEnds kept Unbuilt text = TakesNone × (kept ≡ None) × (text ≡ end_line Unbuilt)
   PlayEnds kept SourceFailed text = TakesFront left old new × Rose (faults old) (faults new) × (kept ≡ None) × (text ≡ end_line SourceFailed)
-  PlayEnds kept NoMemory text = TakesFront left old new × ((kept ≡ None) ⊎ ((script : Script) × TakesScript script × KeepsPart script kept)) × (text ≡ end_line NoMemory)
+  PlayEnds kept NoMemory text = TakesFront left old new × (((kept ≡ None) × (text ≡ end_line NoMemory)) ⊎ ((script : Script) × TakesScript script × ScriptEnds script kept NoMemory text))
 
 -- the call has ended in one of these ways, or was about to when its sink failed
 abbrev pub EndsAs : {K : Type 0} → (K → Option (List ℕ)) → (K → ℕ) → K → K → (End → List ℕ → Type 0) → ℕ → Type 0

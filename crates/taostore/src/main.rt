@@ -3,6 +3,7 @@
 
 mod arguments;
 mod commands;
+mod faults;
 mod output;
 mod play;
 mod playing;
@@ -14,12 +15,13 @@ mod transcript;
 mod writing;
 
 pub use commands::{Kept, taostore};
+pub use faults::StreamFault;
 pub use output::End;
 pub use play::play_top;
 pub use playing::{Played, play};
 pub use standard::{StdSink, StdSource};
 use std::process::ExitCode;
-pub use transcript::transcript;
+pub use transcript::tell_session;
 
 fn main(rt: HostRuntime) -> ExitCode {
     let alloc = rt.alloc();

@@ -1,9 +1,9 @@
 //! The end of an output: its last line, and the status that goes with it.
-ghost use Rattle.std.specs.Prelude.{◌≡◌};
+ghost use Rattle.std.specs.Prelude.{◌≡◌, ◌++◌};
 ghost use Rattle.taostore.specs.Output.{Finishes};
 ghost use Rattle.taostore.specs.Endings.{status_of, end_line};
 
-use crate::writing::put_all;
+use crate::writing::put_both;
 use tao_base::Sink;
 
 /// How a call ends where its sink takes all. The number is the exit status.
@@ -22,7 +22,7 @@ pub enum End {
 }
 
 /// The status of a call whose sink has failed. It has no end line.
-const SINK_FAILED: u8 = 5;
+pub const SINK_FAILED: u8 = 5;
 
 impl End {
     /// The exit status.
@@ -50,14 +50,14 @@ impl End {
 pub fn finish<K: Sink>(sink: &mut K, end: End) -> u8
     ensures { Finishes K.put K.faults sink.old sink.new (status_of end) (end_line end) result }
 {
-    finish_text(sink, end, end.line())
+    finish_text(sink, &[], end)
 }
 
-/// Writes a text that has the end line at its end, and answers the exit status.
-pub fn finish_text<K: Sink>(sink: &mut K, end: End, text: &[u8]) -> u8
-    ensures { Finishes K.put K.faults sink.old sink.new (status_of end) text.now result }
+/// Writes the text that is left and the end line, and answers the exit status.
+pub fn finish_text<K: Sink>(sink: &mut K, text: &[u8], end: End) -> u8
+    ensures { Finishes K.put K.faults sink.old sink.new (status_of end) (text.now ++ end_line end) result }
 {
-    match put_all(sink, text) {
+    match put_both(sink, text, end.line()) {
         Ok(()) => end.status(),
         Err(_) => SINK_FAILED,
     }

@@ -7,19 +7,20 @@ ghost use Rattle.taostore.specs.Output.{PutsMore};
 ghost use Rattle.taostore.specs.Endings.{EndsAs, PlayEnds, ScriptEnds, TakesScript, TakesNone, kept_history, end_line};
 
 use crate::commands::Kept;
-use crate::output::{End, finish, finish_text};
+use crate::faults::StreamFault;
+use crate::output::{End, finish};
 use crate::playing::{Played, play};
-use crate::reading::{ReadFault, take_all};
-use crate::transcript::transcript;
+use crate::reading::take_all;
+use crate::transcript::tell_session;
 use std::alloc::Global;
-use tao_base::{NoMemory, Sink, Source};
+use tao_base::{Sink, Source};
 use tao_text::{Script, TextKind, read_script};
 
 /// The bytes of the longest script.
 const MAX_SCRIPT: usize = 1 << 24;
 
 /// Takes a script from the source and plays it, writes its transcript, and answers the exit status. The record is kept. Where memory runs
-/// out, the end line is all that is written.
+/// out, the end line for that stands behind whole lines of the transcript; before all was played there are none.
 pub fn play_top<S: Source, K: Sink>(
     alloc: Global,
     source: &mut S,
@@ -56,8 +57,8 @@ fn take_script<S: Source>(alloc: Global, source: &mut S) -> Result<Script, End>
 {
     let bytes = match take_all(alloc, source, MAX_SCRIPT + 1) {
         Ok(bytes) => bytes,
-        Err(ReadFault::Failed) => return Err(End::SourceFailed),
-        Err(ReadFault::NoMemory) => return Err(End::NoMemory),
+        Err(StreamFault::Failed) => return Err(End::SourceFailed),
+        Err(StreamFault::NoMemory) => return Err(End::NoMemory),
     };
     match read_script(alloc, bytes.as_slice()) {
         Ok(script) => Ok(script),
@@ -68,7 +69,7 @@ fn take_script<S: Source>(alloc: Global, source: &mut S) -> Result<Script, End>
     }
 }
 
-// Plays a script, keeps its record and writes its transcript.
+// Plays a script, writes its transcript and keeps its record.
 fn play_script<K: Sink>(alloc: Global, script: Script, sink: &mut K, kept: &mut Kept) -> u8
     requires none { IsNone kept.old.history }
     requires script { IsScript script }
@@ -77,12 +78,9 @@ fn play_script<K: Sink>(alloc: Global, script: Script, sink: &mut K, kept: &mut 
 {
     match play(alloc, script) {
         Played::Whole(session, blocks) => {
-            let text = transcript(alloc, &session, blocks.as_slice());
+            let status = tell_session(alloc, &session, blocks.as_slice(), sink);
             kept.history = Some(session);
-            match text {
-                Ok(text) => finish_text(sink, End::Done, text.as_slice()),
-                Err(NoMemory) => finish(sink, End::NoMemory),
-            }
+            status
         }
         Played::Part(session) => {
             kept.history = Some(session);

@@ -4,48 +4,24 @@ ghost use Rattle.std.specs.Io.KnownBytes.{Consumes, IsAtEnd};
 ghost use Rattle.tao_base.specs.Causes.{Rose};
 ghost use Rattle.taostore.specs.Input.{TakesFront, TakesInput};
 
+use crate::faults::StreamFault;
 use std::alloc::Global;
-use tao_base::{Failed, Image, NoMemory, Source};
-
-/// Why a source was not read to its end.
-#[derive(Clone, Copy, Debug, PartialEq, Eq)]
-pub enum ReadFault {
-    /// The source has failed.
-    Failed,
-    /// Memory ran out. Some of the bytes may have been taken.
-    NoMemory,
-}
-
-impl From<Failed> for ReadFault {
-    ghost use Rattle.taostore.specs.declared.reading.ReadFault.TheVariants.{Failed};
-
-    ghost from_gives = { λ _ fault. fault ≡ Failed };
-
-    fn from(_: Failed) -> Self {
-        ReadFault::Failed
-    }
-}
-
-impl From<NoMemory> for ReadFault {
-    ghost use Rattle.taostore.specs.declared.reading.ReadFault.TheVariants.{NoMemory};
-
-    ghost from_gives = { λ _ fault. fault ≡ NoMemory };
-
-    fn from(_: NoMemory) -> Self {
-        ReadFault::NoMemory
-    }
-}
+use tao_base::{Image, NoMemory, Source};
 
 /// How many bytes are asked for at once.
 const CHUNK: usize = 1 << 16;
 
 /// Reads the source to its end, or `limit` bytes of it.
-pub fn take_all<S: Source>(alloc: Global, source: &mut S, limit: usize) -> Result<Image, ReadFault>
+pub fn take_all<S: Source>(
+    alloc: Global,
+    source: &mut S,
+    limit: usize,
+) -> Result<Image, StreamFault>
     ensures bytes { IfOk result (TakesInput S.left source.old source.new limit) }
     ensures some { TakesFront S.left source.old source.new }
     ensures ok { OnOk result (S.faults source.new ≡ S.faults source.old) }
-    ensures failed { IsErrOf result ReadFault.Failed → Rose (S.faults source.old) (S.faults source.new) }
-    ensures memory { IsErrOf result ReadFault.NoMemory → S.faults source.new ≡ S.faults source.old }
+    ensures failed { IsErrOf result StreamFault.Failed → Rose (S.faults source.old) (S.faults source.new) }
+    ensures memory { IsErrOf result StreamFault.NoMemory → S.faults source.new ≡ S.faults source.old }
 {
     let mut bytes = Image::new(alloc);
     let mut room = zeros(alloc, CHUNK)?;
@@ -63,15 +39,15 @@ fn read_once<S: Source>(
     source: &mut S,
     room: &mut [u8],
     bytes: &mut Image,
-) -> Result<usize, ReadFault>
+) -> Result<usize, StreamFault>
     requires { 0 < length room.old }
     ensures some { TakesFront S.left source.old source.new }
     ensures more { OnOk result ((more : List ℕ) × Consumes (S.left source.old) (S.left source.new) more × (bytes.new ≡ bytes.old ++ more)) }
     ensures count { IfOk result (λ n. (n ≤ length room.old) × (length bytes.new ≡ length bytes.old + n)) }
     ensures end { IfOk result (λ n. n ≡ 0 → IsAtEnd (S.left source.new)) }
     ensures ok { OnOk result (S.faults source.new ≡ S.faults source.old) }
-    ensures failed { IsErrOf result ReadFault.Failed → Rose (S.faults source.old) (S.faults source.new) }
-    ensures memory { IsErrOf result ReadFault.NoMemory → S.faults source.new ≡ S.faults source.old }
+    ensures failed { IsErrOf result StreamFault.Failed → Rose (S.faults source.old) (S.faults source.new) }
+    ensures memory { IsErrOf result StreamFault.NoMemory → S.faults source.new ≡ S.faults source.old }
 {
     let n = source.read(room)?;
     bytes.extend_from_slice(&room[..n])?;

@@ -91,7 +91,7 @@ fn run(
 }
 
 // the words, the reads and the writes that fail, and the sink's room; the status, and what is written
-static FAULTS: [(&str, &[u32], &[u32], usize, u8, &str); 13] = [
+static FAULTS: [(&str, &[u32], &[u32], usize, u8, &str); 14] = [
     ("paly", &[], &[], 99, 2, "end 2\n"),
     ("", &[], &[], 99, 2, "end 2\n"),
     ("play play", &[], &[], 99, 2, "end 2\n"),
@@ -103,6 +103,7 @@ static FAULTS: [(&str, &[u32], &[u32], usize, u8, &str); 13] = [
     ("play", &[1], &[], 99, 4, "end 4\n"),
     ("play", &[], &[0], 99, 5, ""),
     ("play", &[], &[], 15, 5, "tree 1 1 4 1 1\n"),
+    ("play", &[], &[], 30, 5, "tree 1 1 4 1 1\nload 3\narrive 0"),
     ("play", &[1], &[0], 99, 5, ""),
     ("play", &[0], &[], 4, 5, "end "),
 ];
@@ -230,6 +231,22 @@ fn longest_session(rt: HostRuntime) -> Result<(), Fail> {
         let (answer, _) = played(rt.alloc(), script, 1 << 24)?;
         assert_eq!(rt; answer, status, "at {count}");
     }
+    Ok(())
+}
+
+// a long text is written in pieces: a later write that fails leaves a front of it
+#[test]
+fn text_in_pieces(rt: HostRuntime) -> Result<(), Fail> {
+    let alloc = rt.alloc();
+    let (_, whole) = played(alloc, reads(alloc, 2_000)?, 1 << 24)?;
+    let mut source = source_of(alloc, reads(alloc, 2_000)?, &[])?;
+    let mut sink = sink_of(alloc, 1 << 24, &[1])?;
+    let mut kept = Kept { history: None };
+    let status = play_top(alloc, &mut source, &mut sink, &mut kept);
+    assert_eq!(rt; (status, kept.history.is_some()), (5, true));
+    let written = sink.bytes();
+    assert!(rt; written.len() >= 1 << 16);
+    assert!(rt; whole.bytes().starts_with(written));
     Ok(())
 }
 
