@@ -196,12 +196,12 @@ kept_pad s rs ws w lasts h = record {
         which (inl e) = absurd (differ (waits_at rs i) t (ap waits (get_or_past rs i (request_of Pad Fake) (omega arith))))
         which (inr e) = wait_old ws w (length rs) i h.places e
 
-pub kept_begun : (s : Shape) (op : Op) (rs : List Request) (ws : List Wait) (room : List ℕ) (lasts : List (Option ℕ)) → IsKept s rs ws lasts → IsInRange s op → length room ≡ s.b
+pub kept_begun : (s : Shape) (op : Op) (rs : List Request) (ws : List Wait) (room : List ℕ) (lasts : List (Option ℕ)) → IsKept s rs ws lasts → IsInRange s op → (is_pad_op op ≡ false → length room ≡ s.b)
     → IsKept s (rs ++ request_of op (kind_entering lasts op) ∷ []) (waits_entered ws lasts op (length rs) ++ record { next = None; room = room } ∷ []) (lasts_entered lasts op (length rs))
 kept_begun s (Read b) rs ws room lasts h fits len =
-    kept_on_block s b rs (request_of (Read b) (kind_after (last_on lasts b))) ws (record { next = None; room = room }) lasts h fits (eq-eqb b b refl) fits refl refl refl len
+    kept_on_block s b rs (request_of (Read b) (kind_after (last_on lasts b))) ws (record { next = None; room = room }) lasts h fits (eq-eqb b b refl) fits refl refl refl (len refl)
 kept_begun s (Write b value) rs ws room lasts h fits len =
-    kept_on_block s b rs (request_of (Write b value) (kind_after (last_on lasts b))) ws (record { next = None; room = room }) lasts h fits.0 (eq-eqb b b refl) fits refl refl refl len
+    kept_on_block s b rs (request_of (Write b value) (kind_after (last_on lasts b))) ws (record { next = None; room = room }) lasts h fits.0 (eq-eqb b b refl) fits refl refl refl (len refl)
 kept_begun s Pad rs ws room lasts h fits len = kept_pad s rs ws (record { next = None; room = room }) lasts h
 
 pub can_enter : (s : Shape) (op : Op) (rs : List Request) (ws : List Wait) (lasts : List (Option ℕ)) → IsKept s rs ws lasts → IsInRange s op → CanEnter lasts (length ws) op

@@ -1,6 +1,7 @@
 //! The queue of a block: its requests from the real one under way on, each of which knows the next.
-ghost use Rattle.std.specs.Prelude.{◌≡◌, ◌<◌, length, slice_set, Some};
+ghost use Rattle.std.specs.Prelude.{◌≡◌, ◌<◌, length, slice_set, Some, false};
 ghost use Rattle.tao_requests.specs.Queues.{last_on, linked, kind_after, IsWithin, CanEnter, kind_entering, lasts_entered, lasts_left, waits_entered, IsOnBlockOf};
+ghost use Rattle.tao_model.specs.Events.{is_pad_op};
 ghost use Rattle.tao_requests.specs.State.{first_answer};
 
 use crate::request::Kind;
@@ -60,12 +61,13 @@ pub(crate) fn leave(lasts: &mut [Option<usize>], op: &Op)
     }
 }
 
-/// The answer that a request has from the first: a pad is answered at once.
-pub(crate) fn first_answer(alloc: Global, op: &Op) -> Option<Block>
-    ensures { result ≡ first_answer op.now }
+/// The answer that a request has from the first, and room for a later one: a pad is answered at once, and its room is given back.
+pub(crate) fn first_answer(alloc: Global, op: &Op, room: Block) -> (Option<Block>, Block)
+    ensures answer { result.0 ≡ first_answer op.now }
+    ensures room { is_pad_op op.now ≡ false → result.1 ≡ room }
 {
     match op {
-        Op::Read(_) | Op::Write(_, _) => None,
-        Op::Pad => Some(Block::new(alloc)),
+        Op::Read(_) | Op::Write(_, _) => (None, room),
+        Op::Pad => (Some(Block::new(alloc)), Block::new(alloc)),
     }
 }

@@ -80,19 +80,14 @@ impl Requests {
     {
         let Room { answer, written } = take_room(&self.p, &mut self.rooms);
         let kind = enter(&mut self.lasts, &mut self.waits, op, arrival as usize);
+        let (settled, room) = first_answer(self.alloc, op, answer);
         let request = Request {
             op: copy_op(op, written),
             kind,
-            answer: first_answer(self.alloc, op),
+            answer: settled,
         };
         push_within(&mut self.requests, request);
-        push_within(
-            &mut self.waits,
-            Wait {
-                next: None,
-                room: answer,
-            },
-        );
+        push_within(&mut self.waits, Wait { next: None, room });
         kind
     }
 
