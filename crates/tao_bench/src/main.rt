@@ -6,6 +6,7 @@ mod checksum;
 mod codec;
 mod frames;
 mod keystream;
+mod sequence;
 mod xor;
 
 use anyhow::{anyhow, bail};
@@ -27,6 +28,7 @@ fn main(rt: HostRuntime) -> Result<(), anyhow::Error> {
             "codec" => codec::checksum(alloc, count)?,
             "xor" => xor::checksum(count),
             "frames" => frames::checksum(alloc, count)?,
+            "sequence" => sequence::checksum(alloc, count)?,
             _ => bail!("no such command"),
         };
         println!(rt; "{command} {checksum}")?;

@@ -1,0 +1,41 @@
+//! Laws: what the answers are, and that the requests are those of a record's arrivals.
+ghost use Rattle.tao_requests.specs.Laws.{AnswersArePlain, ValueIsPlain, KindIsReal, FollowsNone, FollowsArrive, FollowsReal, FollowsFake, FollowsFurther};
+
+/// What is answered when a block's requests are settled is what the plain array answers, in the order of arrival.
+pub fn answers_are_plain()
+    ensures { AnswersArePlain }
+{}
+
+/// The value that is left is the plain array's.
+pub fn value_is_plain()
+    ensures { ValueIsPlain }
+{}
+
+/// `begin` answers Real exactly where the definition over a record's events does.
+pub fn kind_is_real()
+    ensures { KindIsReal }
+{}
+
+pub fn follows_none()
+    ensures { FollowsNone }
+{}
+
+/// One more arrival is one more request.
+pub fn follows_arrive()
+    ensures { FollowsArrive }
+{}
+
+/// The Done of a real arrival may settle it, and settles what the definition over the events says.
+pub fn follows_real()
+    ensures { FollowsReal }
+{}
+
+/// The Done of a fake arrival settles nothing.
+pub fn follows_fake()
+    ensures { FollowsFake }
+{}
+
+/// Write-backs, acknowledgements and the end change nothing.
+pub fn follows_further()
+    ensures { FollowsFurther }
+{}

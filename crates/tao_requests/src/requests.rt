@@ -1,0 +1,156 @@
+//! The requests of a session.
+ghost use Rattle.std.specs.Prelude.{◌≡◌, ◌+◌, ◌<◌, ◌≤◌, false, max, [], ◌∷◌, ◌++◌, length, vec_len, vec_capacity, IfOk, OnOk, OnErr};
+ghost use Rattle.std.specs.Option.{option_copied};
+ghost use Rattle.tao_model.specs.Lawful.{IsInRange};
+ghost use Rattle.tao_model.specs.Events.{is_pad_op};
+
+use crate::queues::{Wait, enter, first_answer, leave};
+use crate::request::{Kind, Request};
+use crate::rooms::{Room, copy_op, new_room, take_room};
+use crate::settling::settle_queue;
+use std::alloc::Global;
+use std::marker::Model;
+use tao_base::{Block, NoMemory, Op, Params};
+
+/// What clients asked in a session, in the order of arrival, each with its kind and its answer. Requests begin and are settled without
+/// taking memory, in room that `reserve` made.
+#[derive(Debug, Drop)]
+pub struct Requests {
+    alloc: Global,
+    p: Params,
+    requests: Vec<Request>,
+    // one for each request
+    waits: Vec<Wait>,
+    // for each block the last request in its queue
+    lasts: Vec<Option<usize>>,
+    rooms: Vec<Room>,
+}
+
+impl Model for Requests {
+    ghost use Rattle.std.specs.Prelude.{vec_len, vec_capacity};
+    ghost use Rattle.tao_requests.specs.State.{RequestsState};
+    ghost use Rattle.tao_requests.specs.Queues.{IsKept, HasRoom};
+
+    ghost Value = { RequestsState };
+
+    ghost view = { λ r. record { shape = r.p; requests = r.requests.items; spare = vec_len r.rooms } };
+
+    ghost invariant = { λ r. IsKept r.p r.requests.items r.waits.items r.lasts.items
+        × HasRoom r.p r.rooms.items (vec_len r.rooms) (vec_len r.requests) (vec_capacity r.requests) (vec_capacity r.waits) };
+}
+
+impl Requests {
+    ghost use Rattle.tao_requests.specs.State.{fresh, begun, kind_now, request_at, block_of, IsUnderWay};
+    ghost use Rattle.tao_requests.specs.Settling.{settled, value_from, KeepsAnswers};
+
+    /// No requests, and no room for any.
+    pub fn new(alloc: Global, p: &Params) -> Result<Requests, NoMemory>
+        ensures { IfOk result (λ r. r ≡ fresh p.now) }
+    {
+        Ok(Requests {
+            alloc,
+            p: *p,
+            requests: Vec::new(alloc),
+            waits: Vec::new(alloc),
+            lasts: vec![in alloc; None; p.n() as usize]?,
+            rooms: Vec::new(alloc),
+        })
+    }
+
+    /// Makes room for one request, where there is none.
+    pub fn reserve(&mut self) -> Result<(), NoMemory>
+        ensures ok { OnOk result (self.new ≡ record self.old { spare = max self.old.spare 1 }) }
+        ensures err { OnErr result (self.new ≡ self.old) }
+    {
+        if self.rooms.is_empty() {
+            self.requests.reserve(1)?;
+            self.waits.reserve(1)?;
+            self.rooms.push(new_room(self.alloc, &self.p)?)?;
+        }
+        Ok(())
+    }
+
+    /// The next request. Its value is copied into room that was made for it.
+    pub fn begin(&mut self, arrival: u64, op: &Op) -> Kind
+        requires spare { 0 < self.old.spare }
+        requires next { arrival ≡ length self.old.requests }
+        requires op { IsInRange self.old.shape op.now }
+        ensures kind { result ≡ kind_now self.old.requests op.now }
+        ensures value { self.new ≡ begun self.old op.now }
+    {
+        let Room { answer, written } = take_room(&self.p, &mut self.rooms);
+        let kind = enter(&mut self.lasts, &mut self.waits, op, arrival as usize);
+        let (settled, room) = first_answer(self.alloc, op, answer);
+        let request = Request {
+            op: copy_op(op, written),
+            kind,
+            answer: settled,
+        };
+        push_within(&mut self.requests, request);
+        push_within(&mut self.waits, Wait { next: None, room });
+        kind
+    }
+
+    /// The fetch of this real request was done and found this value of its block: answers all that wait on the block, and leaves the
+    /// value after them.
+    pub fn settle(&mut self, arrival: u64, value: &mut Block)
+        requires under_way { IsUnderWay self.old.requests arrival }
+        requires value { length value.old ≡ self.old.shape.b }
+        ensures settled { self.new ≡ settled self.old arrival value.old }
+        ensures value { value.new ≡ value_from arrival (block_of self.old.requests arrival) value.old self.old.requests }
+        ensures len { length value.new ≡ length value.old }
+        ensures count { length self.new.requests ≡ length self.old.requests }
+        ensures stays { KeepsAnswers self.old.requests self.new.requests }
+    {
+        let first = arrival as usize;
+        leave(&mut self.lasts, &self.requests[first].op);
+        settle_queue(
+            self.alloc,
+            &mut self.requests,
+            &mut self.waits,
+            first,
+            value,
+        );
+    }
+
+    pub fn kind_of(&self, arrival: u64) -> Kind
+        requires { arrival < length self.now.requests }
+        ensures { result ≡ (request_at self.now.requests arrival).kind }
+    {
+        self.requests[arrival as usize].kind
+    }
+
+    /// The block of a request that is no pad.
+    pub fn block_of(&self, arrival: u64) -> u32
+        requires arrived { arrival < length self.now.requests }
+        requires no_pad { is_pad_op (request_at self.now.requests arrival).op ≡ false }
+        ensures { result ≡ block_of self.now.requests arrival }
+    {
+        match &self.requests[arrival as usize].op {
+            Op::Read(block) | Op::Write(block, _) => *block,
+            Op::Pad => unreachable!(),
+        }
+    }
+
+    /// The value before the request's operation, once it is settled.
+    pub fn answer_of(&self, arrival: u64) -> Option<&Block>
+        requires { arrival < length self.now.requests }
+        ensures { option_copied result ≡ (request_at self.now.requests arrival).answer }
+    {
+        self.requests[arrival as usize].answer.as_ref()
+    }
+}
+
+fn push_within<T>(list: &mut Vec<T>, item: T)
+where
+    T: Drop,
+    requires { vec_len list.old < vec_capacity list.old }
+    ensures items { list.new.items ≡ list.old.items ++ item ∷ [] }
+    ensures len { vec_len list.new ≡ vec_len list.old + 1 }
+    ensures capacity { vec_capacity list.old ≤ vec_capacity list.new }
+{
+    match list.push(item) {
+        Ok(()) => {}
+        Err(_) => unreachable!(),
+    }
+}
