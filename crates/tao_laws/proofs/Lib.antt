@@ -1,0 +1,3 @@
+pub mod AskedNodes
+pub mod RecentNodes
+pub mod WrittenNodes
