@@ -1,1 +1,4 @@
+pub mod OpenRequests
 pub mod Residents
+pub mod SettledValues
+pub mod TapeWords
