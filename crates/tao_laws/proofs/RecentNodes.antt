@@ -1,8 +1,8 @@
 -- What was touched since the last write-back is held, and is what the next one has. The events `es` are newest first.
-use Rattle.std.proofs.Common.{◌≡◌, ℕ, zero, suc, ◌+◌, ◌*◌, ◌^◌, ◌<◌, ◌≤◌, Bool, true, false, not, ◌&&◌, ◌||◌, cond, List, [], ◌∷◌, filter, reverse, Some, is_some, refl, sym, ap, ◌∙◌, arith, inl, inr, ◌⊎◌, nat_eq, nat_lt, mul-le-mul_right}
+use Rattle.std.proofs.Common.{◌≡◌, ℕ, ◌+◌, ◌*◌, ◌^◌, ◌<◌, ◌≤◌, Bool, true, false, not, ◌&&◌, ◌||◌, cond, List, [], ◌∷◌, reverse, Some, is_some, refl, sym, ap, ◌∙◌, arith, nat_eq, nat_lt, mul-le-mul_right}
 use Rattle.std.specs.List.{range_with_len}
 use Rattle.std.proofs.Math.Nat.{mod-lt}
-use Rattle.std.proofs.lemmas.Bool.{ne_eqb, eq-eqb, cases_eq, ltb-true, lt-ltb}
+use Rattle.std.proofs.lemmas.Bool.{ltb-true, lt-ltb}
 use Rattle.std.proofs.lemmas.Nat.{pow_pos}
 use Rattle.tao_base.specs.declared.session.Event.{Event}
 use Rattle.tao_base.specs.declared.session.Event.TheVariants.{Arrive, Done, Issue, Acked, Fault}
@@ -15,6 +15,7 @@ use Rattle.tao_model.specs.Residence.{last_touch, bucket_of, is_issued, is_cover
 use Rattle.tao_model.specs.Trace.{nodes_in}
 use Rattle.tao_model.specs.Lawful.{FollowsLawfully, MayBeIssued, touched_after}
 use Rattle.tao_model.proofs.FallingPaths.{has, has_below, has_reverse, on_path_has, path_falls}
+use Rattle.tao_laws.proofs.Listings.{has_filter, has_range}
 use Rattle.tao_laws.specs.Residents.{IsRecent, RecentIsResident}
 
 within_step : (t : Bool) (n r : ℕ) → r ≤ n → cond t (n + 1) r ≤ n + 1
@@ -92,32 +93,6 @@ bucket_in node (b ∷ buckets) = either (nat_eq b.node node) (bucket_in node buc
         → is_some (cond t (Some b) (bucket_of node buckets)) ≡ (t || has node (nodes_in buckets))
     either true ih = refl
     either false ih = ih
-
-has_filter : (passes : ℕ → Bool) (w : ℕ) (nodes : List ℕ) → has w (filter passes nodes) ≡ (passes w && has w nodes)
-has_filter passes w [] = either (passes w)
-  where
-    either : (t : Bool) → false ≡ (t && false)
-    either true = refl
-    either false = refl
-has_filter passes w (v ∷ nodes) = either (passes v) refl (cases_eq v w) (has_filter passes w nodes)
-  where
-    here : (t : Bool) → (t || has w (filter passes nodes)) ≡ (true && (t || has w (filter passes nodes)))
-    here t = refl
-
-    either : (t : Bool) → passes v ≡ t → (v ≡ w) ⊎ (v ≡ w → ⊥) → has w (filter passes nodes) ≡ (passes w && has w nodes)
-        → has w (cond t (v ∷ filter passes nodes) (filter passes nodes)) ≡ (passes w && (nat_eq v w || has w nodes))
-    either true is (inl same) ih = rw (eq-eqb v w same, sym (ap passes same) ∙ is) refl
-    either true is (inr other) ih = rw (ne_eqb v w other) ih
-    either false is (inl same) ih = ih ∙ rw (sym (ap passes same) ∙ is) refl
-    either false is (inr other) ih = rw (ne_eqb v w other) ih
-
-has_range : (a n w : ℕ) → a ≤ w → w < a + n → has w (range_with_len a n) ≡ true
-has_range a zero w low high = absurd (omega arith)
-has_range a (suc n) w low high = either (cases_eq a w) (λ more. has_range (a + 1) n w more (omega arith))
-  where
-    either : (a ≡ w) ⊎ (a ≡ w → ⊥) → (a + 1 ≤ w → has w (range_with_len (a + 1) n) ≡ true) → (nat_eq a w || has w (range_with_len (a + 1) n)) ≡ true
-    either (inl same) ih = rw (eq-eqb a w same) refl
-    either (inr other) ih = rw (ne_eqb a w other) (ih (omega (arith, other)))
 
 has_touched : (o : Opening) (es : List Event) (number node : ℕ) → has node (touched_after o es number) ≡ nat_lt number (last_touch o es node)
 has_touched o es number node = has_filter (λ w. nat_lt number (last_touch o es w)) node (range_with_len 1 (node_count o.shape.l)) ∙ either (nat_lt number (last_touch o es node)) refl

@@ -2,3 +2,4 @@ pub mod OpenRequests
 pub mod Residents
 pub mod SettledValues
 pub mod TapeWords
+pub mod TwoPlays

@@ -5,6 +5,7 @@
 mod open_requests;
 mod residents;
 mod tape_words;
+mod two_plays;
 
 pub use open_requests::{
     leaf_is_position, one_real, queue_of_block, quiet_is_settled, released_is_settled, right_value,
@@ -16,3 +17,4 @@ pub use residents::{
     written_after_touch,
 };
 pub use tape_words::distinct_words;
+pub use two_plays::{equal_traces, kinds_need_no_word, permutation_is_one_to_one};
