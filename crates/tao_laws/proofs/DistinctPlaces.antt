@@ -11,7 +11,8 @@ use Rattle.tao_model.specs.Requests.{real_now, next_word, word_for, word_used}
 use Rattle.tao_model.specs.Lawful.{FollowsLawfully, IsInRange}
 use Rattle.tao_model.proofs.Stays.{used_stays}
 use Rattle.tao_model.proofs.OneMoreEvent.{word_for_fake, word_for_block}
-use Rattle.tao_laws.specs.TapeWords.{AreDistinct, DistinctWords}
+use Rattle.tao_model.proofs.Places.{word_for_below}
+use Rattle.tao_laws.specs.TapeWords.{AreDistinct, DistinctWords, WordsAreKnown}
 
 -- ---- the two steps, over plain functions
 
@@ -162,3 +163,23 @@ distinct_from o (Fault cause ∷ es) f = distinct_from o es f.0
 
 pub distinct_words : DistinctWords
 distinct_words o events f = distinct_from o (reverse events) f
+
+-- ---- words that are there
+
+known_from : (o : Opening) (es : List Event) (i : ℕ) → FollowsLawfully o es → i < arrived es → word_used o es i ≤ o.shape.n + i
+known_from o [] i f h = absurd (omega arith)
+known_from o (Arrive client op word ∷ es) i f h = either (cases_lt i (arrived es)) (λ older. known_from o es i f.0 older)
+  where
+    either : (i < arrived es) ⊎ (arrived es ≤ i) → (i < arrived es → word_used o es i ≤ o.shape.n + i) → word_used o (Arrive client op word ∷ es) i ≤ o.shape.n + i
+    either (inl older) ih = let before = ih older in let same = used_stays o es (Arrive client op word) i older in omega arith
+    either (inr newest) ih =
+        let at : i ≡ arrived es = omega arith in
+        let below = word_for_below o es op (real_now es op) f.2.3 in
+        rw (eq-eqb i (arrived es) at) (omega arith)
+known_from o (Done arrival taken ∷ es) i f h = known_from o es i f.0 h
+known_from o (Issue version nonce buckets ∷ es) i f h = known_from o es i f.0 h
+known_from o (Acked version ∷ es) i f h = known_from o es i f.0 h
+known_from o (Fault cause ∷ es) i f h = known_from o es i f.0 h
+
+pub words_are_known : WordsAreKnown
+words_are_known o events i f h = known_from o (reverse events) i f h

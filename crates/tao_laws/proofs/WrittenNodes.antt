@@ -1,8 +1,10 @@
 -- A node's version follows from its last touch, and a node that isn't held has the version that was acknowledged. The events `es` are newest first.
-use Rattle.std.proofs.Common.{◌≡◌, ℕ, ◌+◌, ◌-◌, ◌*◌, ◌<◌, ◌≤◌, Bool, true, false, not, ◌&&◌, ◌||◌, cond, List, [], ◌∷◌, reverse, Option, Some, None, is_some, refl, sym, ap, ◌∙◌, subst, arith, inl, inr, ◌⊎◌, nat_eq, nat_lt, mul-le-mul_right}
+use Rattle.std.proofs.Common.{◌≡◌, ℕ, ◌+◌, ◌-◌, ◌*◌, ◌/◌, ◌<◌, ◌≤◌, Bool, true, false, not, ◌&&◌, ◌||◌, cond, List, [], ◌∷◌, reverse, Option, Some, None, is_some, refl, sym, ap, ◌∙◌, subst, arith, inl, inr, ◌⊎◌, nat_eq, nat_lt, mul-le-mul_right}
 use Rattle.std.specs.Option.{option_or}
 use Rattle.std.specs.Int.{div_ceil}
 use Rattle.std.proofs.lemmas.Bool.{cases_lt, cases_order, ltb-true, ltb-false, lt-ltb, eqb-true, true≢false, and_parts, or_cases, not-true}
+use Rattle.std.proofs.Math.Nat.{div-mul-le_self}
+use Rattle.std.proofs.lemmas.Nat.{le-div}
 use Rattle.std.proofs.lemmas.Grind.{div_ceil_times}
 use Rattle.tao_base.specs.declared.session.Event.{Event}
 use Rattle.tao_base.specs.declared.session.Event.TheVariants.{Arrive, Done, Issue, Acked, Fault}
@@ -15,7 +17,7 @@ use Rattle.tao_model.specs.Residence.{last_touch, bucket_of, is_issued, is_cover
 use Rattle.tao_model.specs.Lawful.{FollowsLawfully, MayBeIssued, IsOpening}
 use Rattle.tao_model.proofs.Stays.{newest_first}
 use Rattle.tao_model.proofs.LawfulToWhole.{paced, follows_opening}
-use Rattle.tao_laws.specs.Residents.{WrittenAfterTouch, ExactVersion, WritesResidents, IssuedIsResident, AwayIsWritten, UntouchedSince, LeavesAcknowledged}
+use Rattle.tao_laws.specs.Residents.{PeriodsAreCounted, WrittenAfterTouch, ExactVersion, WritesResidents, IssuedIsResident, AwayIsWritten, UntouchedSince, LeavesAcknowledged}
 use Rattle.tao_laws.proofs.RecentNodes.{touch_within, recent_from, written_where_recent}
 
 -- ---- the version against the touch, of one node: m write-backs were issued
@@ -155,6 +157,34 @@ exact_version o events node f = record {
         → issues (reverse events) * o.shape.k < last_touch o (reverse events) node
     is_recent beyond (inl h) = absurd (omega arith)
     is_recent beyond (inr recent) = recent
+
+-- ---- how many write-backs
+
+full_periods : (k m n : ℕ) → 0 < k → m * k ≤ n → n < (m + 1) * k → m ≡ n / k
+full_periods k m n some low high =
+    let at_least : m ≤ n / k = le-div m n k some low in
+    let back : n / k * k ≤ n = div-mul-le_self n k in
+    either at_least back (cases_lt m (n / k))
+  where
+    either : m ≤ n / k → n / k * k ≤ n → (m < n / k) ⊎ (n / k ≤ m) → m ≡ n / k
+    either at_least back (inr no_more) = omega arith
+    either at_least back (inl more) = let up : (m + 1) * k ≤ n / k * k = mul-le-mul_right k (omega arith) in absurd (omega arith)
+
+pub periods_are_counted : PeriodsAreCounted
+periods_are_counted o events f = record {
+  paced = paced o (reverse events) f;
+  whole = λ none. full_periods o.shape.k (issues (reverse events)) (dones (reverse events)) some (paced o (reverse events) f) none;
+  touched = λ node. touch_within o (reverse events) node;
+}
+  where
+    opening : IsOpening o
+    opening = follows_opening o (reverse events) f
+
+    shape : IsShape o.shape
+    shape = opening.shape
+
+    some : 0 < o.shape.k
+    some = let low = shape.period_low in omega arith
 
 -- ---- a write-back and the nodes that aren't held
 

@@ -1,20 +1,29 @@
 -- Laws of residence: which nodes the proxy holds, and what was last written at those that it doesn't. A record's events are oldest first.
-use Rattle.std.specs.Prelude.{◌≡◌, ◌↔◌, ◌⊎◌, ℕ, ◌-◌, ◌*◌, ◌<◌, ◌≤◌, true, false, List, ◌∷◌, ◌++◌, reverse, is_some}
+use Rattle.std.specs.Prelude.{◌≡◌, ◌↔◌, ◌⊎◌, ℕ, ◌-◌, ◌*◌, ◌/◌, ◌<◌, ◌≤◌, true, false, List, ◌∷◌, ◌++◌, reverse, is_some}
 use Rattle.std.specs.Int.{div_ceil}
 use Rattle.tao_base.specs.declared.calls.Op.{Op}
 use Rattle.tao_base.specs.declared.session.Event.{Event}
 use Rattle.tao_base.specs.declared.session.Event.TheVariants.{Arrive, Issue}
 use Rattle.tao_base.specs.declared.storage.Bucket.{Bucket}
 use Rattle.tao_base.specs.Session.{Opening}
-use Rattle.tao_model.specs.Events.{arrived, issues, is_done, is_acked}
+use Rattle.tao_model.specs.Events.{arrived, dones, issues, is_done, is_acked}
 use Rattle.tao_model.specs.Requests.{fetches}
 use Rattle.tao_model.specs.Residence.{last_touch, bucket_of, is_issued, departs, is_resident, newest_write, newest_version}
-use Rattle.tao_model.specs.Lawful.{FollowsLawfully}
+use Rattle.tao_model.specs.Lawful.{FollowsLawfully, OwesNone}
 use Rattle.tao_model.specs.OneMore.{with_one_more}
 
 -- a node that was touched since the last write-back
 abbrev pub IsRecent : Opening → List Event → ℕ → Type 0
 IsRecent o es node = issues es * o.shape.k < last_touch o es node
+
+-- As many write-backs were issued as periods were filled, but for one that is owed. No touch is later than the last Done.
+pub record CountsPeriods (o : Opening) (es : List Event) : Type 0 where
+  pub paced : issues es * o.shape.k ≤ dones es
+  pub whole : OwesNone o es → issues es ≡ dones es / o.shape.k
+  pub touched : (node : ℕ) → last_touch o es node ≤ dones es
+
+abbrev pub PeriodsAreCounted : Type 0
+PeriodsAreCounted = (o : Opening) (events : List Event) → FollowsLawfully o (reverse events) → CountsPeriods o (reverse events)
 
 -- A node that was touched since the last write-back is held by the proxy.
 abbrev pub RecentIsResident : Type 0

@@ -1,5 +1,5 @@
 -- Laws of words: no word of the tape is used twice. A record's events are oldest first.
-use Rattle.std.specs.Prelude.{◌≢◌, ℕ, ◌+◌, ◌<◌, List, reverse}
+use Rattle.std.specs.Prelude.{◌≢◌, ℕ, ◌+◌, ◌<◌, ◌≤◌, List, reverse}
 use Rattle.tao_base.specs.declared.session.Event.{Event}
 use Rattle.tao_base.specs.Session.{Opening}
 use Rattle.tao_model.specs.Events.{arrived}
@@ -17,3 +17,8 @@ pub record AreDistinct (blocks n : ℕ) (used next : ℕ → ℕ) : Type 0 where
 abbrev pub DistinctWords : Type 0
 DistinctWords = (o : Opening) (events : List Event) → FollowsLawfully o (reverse events)
     → AreDistinct o.shape.n (arrived (reverse events)) (word_used o (reverse events)) (next_word o (reverse events))
+
+-- An arrival uses a word that is there when it comes: its own, or an earlier one.
+abbrev pub WordsAreKnown : Type 0
+WordsAreKnown = (o : Opening) (events : List Event) (i : ℕ) → FollowsLawfully o (reverse events) → i < arrived (reverse events)
+    → word_used o (reverse events) i ≤ o.shape.n + i

@@ -13,8 +13,8 @@ pub use open_requests::{
 };
 pub use residents::{
     as_it_was_asked, away_is_acknowledged, away_is_written, exact_version, issued_is_resident,
-    leaves_acknowledged, one_answer_is_newest, recent_is_resident, untouched_since,
-    written_after_touch,
+    leaves_acknowledged, one_answer_is_newest, periods_are_counted, recent_is_resident,
+    untouched_since, written_after_touch,
 };
-pub use tape_words::distinct_words;
+pub use tape_words::{distinct_words, words_are_known};
 pub use two_plays::{equal_traces, kinds_need_no_word, permutation_is_one_to_one};

@@ -1,5 +1,10 @@
 //! Laws: which nodes the proxy holds, and what was last written at those that it doesn't.
-ghost use Rattle.tao_laws.specs.Residents.{RecentIsResident, WrittenAfterTouch, ExactVersion, IssuedIsResident, AwayIsWritten, UntouchedSince, LeavesAcknowledged, AwayIsAcknowledged, AsItWasAsked, OneAnswerIsNewest};
+ghost use Rattle.tao_laws.specs.Residents.{PeriodsAreCounted, RecentIsResident, WrittenAfterTouch, ExactVersion, IssuedIsResident, AwayIsWritten, UntouchedSince, LeavesAcknowledged, AwayIsAcknowledged, AsItWasAsked, OneAnswerIsNewest};
+
+/// Write-backs keep pace with Dones. That the room for them can be made beforehand rests on it.
+pub fn periods_are_counted()
+    ensures { PeriodsAreCounted }
+{}
 
 /// A node that was touched since the last write-back is held. The root of all facts of residence: a write-back can read each of its nodes.
 pub fn recent_is_resident()
