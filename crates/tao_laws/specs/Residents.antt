@@ -30,7 +30,8 @@ abbrev pub RecentIsResident : Type 0
 RecentIsResident = (o : Opening) (events : List Event) (node : ℕ) → FollowsLawfully o (reverse events) → IsRecent o (reverse events) node
     → is_resident o (reverse events) node ≡ true
 
--- A write-back has a version from 1 on. It writes nodes that were touched after the Dones of the one before it, and no later one is older.
+-- A write-back's version is one of those from 1 on that were issued. Each of its nodes was touched after the periods of the earlier ones, and
+-- its newest version is no older.
 pub record IsWrittenAfter (o : Opening) (es : List Event) (version node : ℕ) : Type 0 where
   pub some : 0 < version
   pub known : version ≤ issues es
@@ -41,8 +42,8 @@ abbrev pub WrittenAfterTouch : Type 0
 WrittenAfterTouch = (o : Opening) (events : List Event) (version node : ℕ) → FollowsLawfully o (reverse events) → is_issued (reverse events) version node ≡ true
     → IsWrittenAfter o (reverse events) version node
 
--- The version of a node that is not recent is the number of periods that its last touch ends, rounded up. A node is recent where its last
--- touch lies beyond the periods of its version.
+-- The version of a node that isn't recent is its last touch in periods, rounded up. A node is recent where its last touch lies beyond the
+-- periods of its version.
 pub record IsExact (o : Opening) (es : List Event) (node : ℕ) : Type 0 where
   pub version : last_touch o es node ≤ issues es * o.shape.k → newest_version es node ≡ div_ceil (last_touch o es node) o.shape.k
   pub recent : IsRecent o es node ↔ (newest_version es node * o.shape.k < last_touch o es node)
@@ -61,7 +62,7 @@ IssuedIsResident = (o : Opening) (events : List Event) (version nonce : ℕ) (bu
     → FollowsLawfully o (with_one_more events (Issue version nonce buckets))
     → WritesResidents o (reverse events) (with_one_more events (Issue version nonce buckets)) buckets node
 
--- A node that the proxy doesn't hold was written after it was last touched.
+-- A node that the proxy doesn't hold was written since it was last touched.
 abbrev pub AwayIsWritten : Type 0
 AwayIsWritten = (o : Opening) (events : List Event) (node : ℕ) → FollowsLawfully o (reverse events) → is_resident o (reverse events) node ≡ false
     → last_touch o (reverse events) node ≤ newest_version (reverse events) node * o.shape.k

@@ -26,7 +26,7 @@ pub fn issued_is_resident()
     ensures { IssuedIsResident }
 {}
 
-/// A node that isn't held was written after its last touch. That the server alone has all that the proxy let go rests on it.
+/// A node that isn't held was written since its last touch. That the server alone has all that the proxy let go rests on it.
 pub fn away_is_written()
     ensures { AwayIsWritten }
 {}
