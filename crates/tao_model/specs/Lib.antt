@@ -13,9 +13,11 @@ pub mod PlacementLaws
 pub mod Replies
 pub mod Requests
 pub mod Residence
+pub mod Shapes
 pub mod Stays
 pub mod Trace
 pub mod Transcript
 pub mod WholeRecords
 pub mod Worked
 pub mod WorkedLawful
+pub mod WorkedPlays

@@ -12,6 +12,7 @@ mod stability;
 mod trace;
 mod whole_records;
 mod worked;
+mod worked_plays;
 
 pub use copies::{
     few_entries, first_copy_counts, gathers_first, gathers_more, gathers_new, gathers_old,
@@ -42,3 +43,4 @@ pub use worked::{
     full_path, kept_under_a_fetch, no_write_back_before_the_period, one_read, overlapping_requests,
     read_write_read, worked_are_lawful, write_backs_out_of_order,
 };
+pub use worked_plays::{touched_since_is_kept, trace_out_of_order, twin_of_reads};

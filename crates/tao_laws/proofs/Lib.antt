@@ -1,0 +1,12 @@
+pub mod AskedNodes
+pub mod DistinctPlaces
+pub mod EqualPlays
+pub mod HandedWords
+pub mod KindsAlone
+pub mod Listings
+pub mod OpenArrivals
+pub mod Permutations
+pub mod RecentNodes
+pub mod RightValues
+pub mod ToldTraces
+pub mod WrittenNodes

@@ -1,0 +1,5 @@
+pub mod OpenRequests
+pub mod Residents
+pub mod SettledValues
+pub mod TapeWords
+pub mod TwoPlays

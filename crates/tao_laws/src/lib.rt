@@ -1,0 +1,20 @@
+//! Laws over every lawful record, with any contents: residence, requests and their words, and two plays of one schedule.
+//! There is no code but the laws: functions with empty bodies whose contract is the law.
+#![tactic(auto)]
+
+mod open_requests;
+mod residents;
+mod tape_words;
+mod two_plays;
+
+pub use open_requests::{
+    leaf_is_position, one_real, queue_of_block, quiet_is_settled, released_is_settled, right_value,
+    words_are_handed_on,
+};
+pub use residents::{
+    as_it_was_asked, away_is_acknowledged, away_is_written, exact_version, issued_is_resident,
+    leaves_acknowledged, one_answer_is_newest, periods_are_counted, recent_is_resident,
+    untouched_since, written_after_touch,
+};
+pub use tape_words::{distinct_words, words_are_known};
+pub use two_plays::{equal_traces, kinds_need_no_word, permutation_is_one_to_one};
