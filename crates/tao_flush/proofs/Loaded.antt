@@ -20,7 +20,7 @@ use Rattle.tao_model.proofs.OneLoad.{load_pass, load_is_placed}
 use Rattle.tao_model.proofs.OnePlacement.{one_placement}
 use Rattle.tao_model.proofs.OnePass.{pass_more}
 use Rattle.tao_model.proofs.FallingPaths.{has, on_path_has}
-use Rattle.tao_flush.specs.Blocks.{IsEntry, IsStash}
+use Rattle.tao_flush.specs.Blocks.{IsEntry, IsStash, AreNodeEntries}
 use Rattle.tao_flush.specs.Loads.{IsLoaded, LoadsNext, bucket_of, has_room, next_loaded, loaded_first}
 use Rattle.tao_flush.proofs.PathNodes.{node_or_stash, node_within, on_own_path, deepest_on_path, last_alike}
 use Rattle.tao_flush.proofs.WholePasses.{pass_keeps}
@@ -170,15 +170,26 @@ is_loaded s leaf blocks loaded stash buckets rest = record {
         let P : List Entry → List Bucket → Type 0 = λ st l. IsPlaced (may_load s leaf) (node_count s.l) s.z (block_below s.n blocks) (with_stash st (entries_at l)) in
         subst (λ st. P st loaded) (one ∙ sym rest) (subst (P other) (sym buckets) is)
 
+entries_fit : (s : Shape) (blocks : List (List ℕ)) → length blocks ≡ s.n → All (λ value. length value ≡ s.b) blocks → All (IsEntry s) (block_entries s.n blocks)
+entries_fit s blocks len values k d below =
+    let all = entries_len s.n blocks in
+    let within : k < s.n = omega arith in
+    subst (IsEntry s) (sym (entry_at s.n blocks k d within)) (within, values k [] (omega arith))
+
+each_fits : (s : Shape) (leaf : ℕ → ℕ) (blocks : List (List ℕ)) → length blocks ≡ s.n → All (λ value. length value ≡ s.b) blocks → (w : ℕ) → All (IsEntry s) (load_contents s leaf blocks w)
+each_fits s leaf blocks len values =
+    pass_keeps (IsEntry s) (may_load s leaf) (node_count s.l) s.z (λ w. []) (block_entries s.n blocks) (λ w. All-nil (IsEntry s)) (entries_fit s blocks len values)
+
 pub load_stash_fits : (s : Shape) (leaf : ℕ → ℕ) (blocks : List (List ℕ)) (stash : List Entry) → length blocks ≡ s.n → All (λ value. length value ≡ s.b) blocks
     → stash ≡ load_contents s leaf blocks 0 → IsStash s stash
-load_stash_fits s leaf blocks stash len values rest = subst (IsStash s) (sym rest) (record {
-  rises = (load_pass s leaf blocks).rises 0;
-  each = pass_keeps (IsEntry s) (may_load s leaf) (node_count s.l) s.z (λ w. []) (block_entries s.n blocks) (λ w. All-nil (IsEntry s)) entries 0;
-})
-  where
-    entries : All (IsEntry s) (block_entries s.n blocks)
-    entries k d below =
-        let all = entries_len s.n blocks in
-        let within : k < s.n = omega arith in
-        subst (IsEntry s) (sym (entry_at s.n blocks k d within)) (within, values k [] (omega arith))
+load_stash_fits s leaf blocks stash len values rest =
+    subst (IsStash s) (sym rest) (record { rises = (load_pass s leaf blocks).rises 0; each = each_fits s leaf blocks len values 0 })
+
+pub load_nodes_fit : (s : Shape) (leaf : ℕ → ℕ) (blocks : List (List ℕ)) (loaded : List Bucket) → length blocks ≡ s.n → All (λ value. length value ≡ s.b) blocks
+    → loaded ≡ load_buckets s (load_contents s leaf blocks) → All (λ bucket. AreNodeEntries s bucket.entries) loaded
+load_nodes_fit s leaf blocks loaded len values buckets = subst (All (λ bucket. AreNodeEntries s bucket.entries)) (sym buckets) (λ k d below.
+    let all = buckets_len s (load_contents s leaf blocks) in
+    let node : AreNodeEntries s (load_contents s leaf blocks (1 + k)) =
+    record { few = (load_pass s leaf blocks).room (1 + k) (omega arith); each = each_fits s leaf blocks len values (1 + k) } in
+    let P : Bucket → Type 0 = λ bucket. AreNodeEntries s bucket.entries in
+    subst P (sym (get_or-map-range_with_len (first_bucket (load_contents s leaf blocks)) 1 (node_count s.l) k (1 + k) d (omega arith) refl)) node)

@@ -5,6 +5,7 @@ ghost use Rattle.tao_base.specs.Tree.{node_at, node_count};
 ghost use Rattle.tao_model.specs.Evictions.{load_contents, load_buckets};
 ghost use Rattle.tao_model.specs.Greatest.{IsLast};
 ghost use Rattle.tao_flush.specs.State.{leaf_in};
+ghost use Rattle.tao_flush.specs.Blocks.{IsStash, AreNodeEntries};
 ghost use Rattle.tao_flush.specs.Loads.{IsLoaded, LoadsNext, bucket_of, has_room};
 
 use crate::placing::push_within;
@@ -26,6 +27,8 @@ pub fn load(
     requires count { length blocks.now ≡ p.now.n }
     requires values { All (λ value. length value ≡ p.now.b) blocks.now }
     ensures loaded { IfOk result (λ r. IsLoaded p.now (leaf_in positions.now) blocks.now r.0 r.1.entries) }
+    ensures entries { IfOk result (λ r. All (λ bucket. AreNodeEntries p.now bucket.entries) r.0) }
+    ensures stash { IfOk result (λ r. IsStash p.now r.1.entries) }
     ensures shape { IfOk result (λ r. r.1.shape ≡ p.now) }
 {
     let mut nodes = empty_nodes(alloc, p)?;
