@@ -1,0 +1,7 @@
+mod Evicted
+mod Loaded
+mod LoopLists
+mod PathNodes
+mod PlacedLists
+mod RisingLists
+mod WholePasses

@@ -1,0 +1,25 @@
+use Rattle.std.proofs.Common.{◌∙◌}
+use Rattle.tao_flush.specs.State.{leaf_in}
+use Rattle.tao_flush.proofs.Loaded.{is_loaded, load_stash_fits, load_nodes_fit}
+use Rattle.tao_flush.proofs.loading.load.Goals as goal
+
+pub invariant_of-stash : goal.invariant_of-stash
+invariant_of-stash c = (
+  c.n.ensures.shape,
+  load_stash_fits c.args.p.now (leaf_in c.args.positions.now) c.args.blocks.now c.place_blocks.new.rest.items c.requires.count c.requires.values c.in_ok-place_blocks.ensures.rest,
+  c.place_blocks.ensures.room,
+)
+
+pub returns-clause-loaded : goal.returns-clause-loaded
+returns-clause-loaded c =
+    is_loaded c.args.p.now (leaf_in c.args.positions.now) c.args.blocks.now c.from_vec.result c.place_blocks.new.rest.items
+    (c.from_vec.ensures ∙ c.in_ok-place_blocks.ensures.nodes) c.in_ok-place_blocks.ensures.rest
+
+pub returns-clause-entries : goal.returns-clause-entries
+returns-clause-entries c =
+    load_nodes_fit c.args.p.now (leaf_in c.args.positions.now) c.args.blocks.now c.from_vec.result c.requires.count c.requires.values
+    (c.from_vec.ensures ∙ c.in_ok-place_blocks.ensures.nodes)
+
+pub returns-clause-stash : goal.returns-clause-stash
+returns-clause-stash c =
+    load_stash_fits c.args.p.now (leaf_in c.args.positions.now) c.args.blocks.now c.place_blocks.new.rest.items c.requires.count c.requires.values c.in_ok-place_blocks.ensures.rest

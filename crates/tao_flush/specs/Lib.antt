@@ -1,0 +1,5 @@
+pub mod Blocks
+pub mod Loads
+pub mod Paths
+pub mod Placing
+pub mod State

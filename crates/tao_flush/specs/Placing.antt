@@ -1,0 +1,31 @@
+-- The pass in rising id, as the lists of a path's nodes see it.
+use Rattle.std.specs.Prelude.{◌≡◌, ℕ, ◌+◌, ◌==◌, nat_lt, Bool, ◌&&◌, List, [], ◌++◌, map, length, Option}
+use Rattle.std.specs.List.{list_any, range_with_len, slice_index_or}
+use Rattle.std.specs.Option.{option_to_list}
+use Rattle.tao_base.specs.declared.storage.Entry.{Entry}
+use Rattle.tao_base.specs.Limits.{Shape}
+use Rattle.tao_base.specs.Tree.{node_at, node_count, path, is_on_path}
+use Rattle.tao_model.specs.Passes.{put_next, one_pass}
+
+-- what the nodes of a leaf's path have, from the root on
+abbrev pub lists_on : ℕ → ℕ → (ℕ → List Entry) → List (List Entry)
+lists_on l at contents = map (λ depth. contents (node_at l at depth)) (range_with_len 0 (l + 1))
+
+-- a block may be placed in the nodes that are on both paths, that to `at` and that to its own leaf
+abbrev pub may_place : ℕ → ℕ → (ℕ → ℕ) → ℕ → ℕ → Bool
+may_place l at leaf b w = list_any (λ v. v == w) (path l at) && is_on_path l (leaf b) w
+
+-- the node at this depth is on both paths, and has room
+abbrev pub fits : Shape → ℕ → ℕ → List (List Entry) → ℕ → Bool
+fits s at leaf lists depth = (node_at s.l leaf depth == node_at s.l at depth) && nat_lt (length (slice_index_or lists depth [])) s.z
+
+abbrev pub next_placed : Shape → ℕ → (ℕ → ℕ) → (ℕ → List Entry) → Entry → ℕ → List Entry
+next_placed s at leaf contents entry = put_next (may_place s.l at leaf) (node_count s.l) s.z contents entry
+
+abbrev pub all_placed : Shape → ℕ → (ℕ → ℕ) → List Entry → ℕ → List Entry
+all_placed s at leaf entries = one_pass (may_place s.l at leaf) (node_count s.l) s.z entries
+
+-- one entry goes where it is to go: to a node of the path, or back to the caller
+abbrev pub PlacesNext : Shape → ℕ → (ℕ → ℕ) → List (List Entry) → Entry → List (List Entry) → Option Entry → Type 0
+PlacesNext s at leaf old entry new back = (contents : ℕ → List Entry) → old ≡ lists_on s.l at contents
+    → (new ≡ lists_on s.l at (next_placed s at leaf contents entry)) × (next_placed s at leaf contents entry 0 ≡ contents 0 ++ option_to_list back)

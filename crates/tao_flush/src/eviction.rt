@@ -1,0 +1,29 @@
+//! The eviction along a path.
+ghost use Rattle.std.specs.Prelude.{◌≡◌, ◌+◌, ◌^◌, ◌<◌, length, All};
+ghost use Rattle.tao_flush.specs.Blocks.{IsStash, AreNodeEntries};
+ghost use Rattle.tao_flush.specs.Paths.{Evicts};
+ghost use Rattle.tao_flush.specs.State.{leaf_in};
+
+use crate::gathering::gather_path;
+use crate::placing::place_entries;
+use crate::positions::Positions;
+use crate::stash::Stash;
+use tao_base::{Entries, Params};
+
+/// Gathers the stash and the nodes of the path to the leaf, given from the root on, and places all blocks anew: each node from the leaf
+/// up takes those of lowest id that may lie there, as many as it has room for, and the rest is the stash. Of several copies of a block
+/// the first counts, the stash before the path and the path from the root. It takes no memory.
+pub fn flush(p: &Params, leaf: u32, path: &mut [Entries], stash: &mut Stash, positions: &Positions)
+    requires leaf { leaf < 2 ^ p.now.l }
+    requires stash { stash.old.shape ≡ p.now }
+    requires positions { positions.now.shape ≡ p.now }
+    requires path { length path.old ≡ p.now.l + 1 }
+    requires entries { All (AreNodeEntries p.now) path.old }
+    ensures evicted { Evicts p.now leaf (leaf_in positions.now) stash.old.entries path.old stash.new.entries path.new }
+    ensures shape { stash.new.shape ≡ stash.old.shape }
+    ensures stash { IsStash p.now stash.new.entries }
+    ensures entries { All (AreNodeEntries p.now) path.new }
+{
+    gather_path(stash.alloc, p, &mut stash.entries, path);
+    place_entries(stash.alloc, p, leaf, path, &mut stash.entries, positions);
+}

@@ -1,0 +1,17 @@
+//! Greedy placement: the blocks' positions, the stash, the load of a tree and the eviction along a path.
+#![tactic(auto)]
+
+mod eviction;
+mod gathering;
+mod loading;
+mod placing;
+mod positions;
+mod rising;
+mod stash;
+#[cfg(test)]
+mod tests;
+
+pub use eviction::flush;
+pub use loading::load;
+pub use positions::Positions;
+pub use stash::Stash;
