@@ -1,0 +1,5 @@
+pub mod Forging
+pub mod Ledgers
+pub mod Nodes
+pub mod Rooms
+pub mod Writes
