@@ -1,12 +1,12 @@
 -- How the nodes of a tree lie in memory.
 use Rattle.std.proofs.Common.{◌≡◌, ℕ, zero, suc, ◌+◌, ◌-◌, ◌*◌, ◌<◌, ◌≤◌, List, [], ◌∷◌, ◌++◌, length, take, drop, replicate, slice_set, slice_index_or, Option, Some, None, refl, sym, ap, ap₂, ◌∙◌, subst, arith, append_assoc}
 use Rattle.std.specs.Option.{option_map}
-use Rattle.std.proofs.lemmas.List.{take-append-le, drop-append-le, take-take, drop-drop, drop-take, length-take-le, length-take, length-drop, length-append, take-replicate, drop-replicate, take_all, drop_all, length-set, get_or_default, length-replicate}
+use Rattle.std.proofs.lemmas.List.{take-append-le, drop-append-le, take-take, drop-drop, drop-take, length-take-le, length-drop, length-append, take-replicate, drop-replicate, take_all, drop_all, length-set, get_or_default, length-replicate}
 use Rattle.std.proofs.Math.Nat.{suc-mul, mul-le-mul_right}
 use Rattle.tao_base.proofs.Fronts.{with_front_all}
 use Rattle.tao_base.specs.Limits.{Shape, bucket_len}
 use Rattle.tao_base.specs.Tree.{node_count}
-use Rattle.tao_tree.specs.Nodes.{Held, holding, held_version, held_of, held_in, bytes_of, AreBlank, IsLaidOut}
+use Rattle.tao_tree.specs.Nodes.{holding, held_version, held_of, held_in, bytes_of, AreBlank, IsLaidOut}
 
 no_nodes : (len : ℕ) → zero * len ≡ 0
 no_nodes len = omega arith

@@ -1,7 +1,7 @@
 -- What one more write makes of a node.
-use Rattle.std.proofs.Common.{◌≡◌, ◌≢◌, ℕ, ◌+◌, ◌-◌, ◌<◌, ◌≤◌, Bool, true, false, nat_eq, nat_lt, List, [], ◌∷◌, ◌++◌, length, fold, slice_set, slice_index_or, Option, Some, None, MatchOption, if◌then◌else◌, refl, sym, ap, ◌∙◌, subst, arith, append_assoc, append-nil}
+use Rattle.std.proofs.Common.{◌≡◌, ◌≢◌, ℕ, ◌-◌, ◌<◌, ◌≤◌, Bool, true, false, nat_eq, List, [], ◌∷◌, ◌++◌, length, fold, slice_set, Option, Some, None, MatchOption, if◌then◌else◌, refl, sym, ap, ◌∙◌, subst, arith, append_assoc, append-nil}
 use Rattle.std.specs.List.{All}
-use Rattle.std.proofs.lemmas.Bool.{ltb-true, ltb-false, lt-ltb, eqb-true, eqb-false}
+use Rattle.std.proofs.lemmas.Bool.{ltb-true, ltb-false, eqb-true, eqb-false}
 use Rattle.std.proofs.lemmas.Grind.{get_or-set_at}
 use Rattle.std.proofs.lemmas.List.{get_or-set_other, length-set, length-replicate}
 use Rattle.std.proofs.lemmas.List.Elements.{All-nil, All-cons, All-head, All-tail, All-push, All-append, All-weaker, All-same}
@@ -9,8 +9,8 @@ use Rattle.std.specs.Option.{option_map}
 use Rattle.tao_base.specs.Limits.{Shape}
 use Rattle.tao_base.specs.Tree.{node_count}
 use Rattle.tao_tree.proofs.PathLemmas.{none_at}
-use Rattle.tao_tree.specs.Nodes.{Held, TreeState, holding, held_version, applied, empty_tree, held_at, version_at, is_newer}
-use Rattle.tao_tree.specs.Writes.{Write, written, tree_after, IsInTree, IsNewest, NewestStays}
+use Rattle.tao_tree.specs.Nodes.{Held, TreeState, holding, held_version, empty_tree, held_at, version_at, is_newer}
+use Rattle.tao_tree.specs.Writes.{Write, written, IsInTree, IsNewest, NewestStays}
 
 -- what a node holds is the newest of these writes
 abbrev Says : List Write → ℕ → Option Held → Type 0

@@ -2,7 +2,7 @@
 use Rattle.std.specs.Prelude.{◌≡◌, ℕ, ◌+◌, ◌-◌, ◌*◌, ◌&&◌, Bool, nat_eq, nat_lt, nat_le, List, [], ◌∷◌, ◌++◌, length, fold, slice_index, slice_set, bit_xor, if◌then◌else◌}
 use Rattle.tao_base.specs.Causes.{one_more}
 use Rattle.tao_base.specs.Limits.{Shape, bucket_len}
-use Rattle.tao_base.specs.Links.{Told, told, asked_of}
+use Rattle.tao_base.specs.Links.{Told, told}
 use Rattle.tao_base.specs.declared.links.Asked.{Asked}
 use Rattle.tao_tree.specs.Ledgers.{LedgerState}
 use Rattle.tao_tree.specs.Nodes.{IsSomePath}

@@ -1,9 +1,8 @@
 -- What a link in memory was asked and what came of it, how it lies in memory, and the room for more.
-use Rattle.std.specs.Prelude.{◌≡◌, ℕ, ◌+◌, ◌-◌, ◌*◌, ◌≤◌, List, [], ◌∷◌, ◌++◌, length, take, drop, All}
-use Rattle.tao_base.specs.Links.{Told, told, asked_of}
+use Rattle.std.specs.Prelude.{◌≡◌, ℕ, ◌+◌, ◌-◌, List, [], ◌∷◌, ◌++◌, length, take, drop}
+use Rattle.tao_base.specs.Links.{Told, told}
 use Rattle.tao_base.specs.declared.links.Asked.{Asked}
 use Rattle.tao_base.specs.declared.links.Asked.TheVariants.{Fetch, Store}
-use Rattle.tao_base.specs.declared.storage.Order.{Order}
 use Rattle.tao_tree.specs.declared.ledger.Note.{Note}
 use Rattle.tao_tree.specs.declared.ledger.Note.TheVariants.{Fetched, Sent}
 

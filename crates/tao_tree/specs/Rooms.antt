@@ -1,5 +1,5 @@
 -- The room that is made beforehand for what a link in memory tells.
-use Rattle.std.specs.Prelude.{◌≡◌, ℕ, ◌+◌, ◌*◌, ◌≤◌, List, length, vec_len, vec_capacity, Vec, All}
+use Rattle.std.specs.Prelude.{ℕ, ◌+◌, ◌*◌, ◌≤◌, List, vec_len, vec_capacity, Vec, All}
 use Rattle.std.specs.declared.alloc.Global.{Global}
 use Rattle.tao_tree.specs.Ledgers.{AreNoted, HasLen}
 use Rattle.tao_tree.specs.declared.ledger.Note.{Note}

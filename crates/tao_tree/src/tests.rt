@@ -1,16 +1,19 @@
-ghost use Rattle.std.specs.Prelude.{◌≡◌, ◌≤◌, IfOk};
+ghost use Rattle.std.specs.Prelude.{◌≡◌, ◌≤◌, None, IfOk};
+ghost use Rattle.tao_base.specs.Memory.{no_half};
 ghost use Rattle.tao_base.specs.Limits.{shape};
 ghost use Rattle.tao_base.specs.Links.{IsSendable};
 ghost use Rattle.tao_base.specs.Tree.{node_count};
 ghost use Rattle.tao_base.specs.declared.parameters.Form.TheVariants.{One};
 ghost use Rattle.tao_tree.specs.Nodes.{reach_of};
 
-use crate::{MemLink, SharedTree, Tree, TreeLink};
+use crate::{MemLink, SharedTree, StreamLink, Tree, TreeLink};
 use std::alloc::Global;
 use std::process::Abort;
 use std::sync::Wait;
 use std::test::Fail;
-use tao_base::{Failed, Image, Link, NoMemory, Numbers, Order, Params};
+use tao_base::{
+    ByteSink, ByteSource, Failed, Image, Link, NoMemory, Numbers, Order, Params, Sink, Source,
+};
 
 const LEN: usize = 28;
 
@@ -180,4 +183,142 @@ fn joined(root: [u8; LEN], leaf: [u8; LEN]) -> [u8; 2 * LEN] {
     path[..LEN].copy_from_slice(&root);
     path[LEN..].copy_from_slice(&leaf);
     path
+}
+
+// Gives one byte a call, and tells nothing.
+#[derive(Drop)]
+struct SlowSource {
+    inner: ByteSource,
+}
+
+impl Source for SlowSource {
+    ghost left = { λ _. None };
+
+    ghost faults = { λ s. s.inner.faults };
+
+    ghost beside = { λ _. no_half };
+
+    fn read(&mut self, room: &mut [u8]) -> Result<usize, Failed> {
+        self.inner.read(&mut room[..1])
+    }
+}
+
+// Takes one byte a call, and tells nothing.
+#[derive(Drop)]
+struct SlowSink {
+    inner: ByteSink,
+}
+
+impl Sink for SlowSink {
+    ghost put = { λ _. None };
+
+    ghost faults = { λ s. s.inner.faults };
+
+    ghost apart = { λ _. no_half };
+
+    fn write(&mut self, bytes: &[u8]) -> Result<usize, Failed> {
+        self.inner.write(&bytes[..1])
+    }
+}
+
+// The answer to a fetch with this length field, kind and id, and so many bytes behind them as a path has.
+fn answer_of(len: u8, kind: u8, id: u8) -> [u8; 69] {
+    let mut bytes = [7; 69];
+    bytes[..13].copy_from_slice(&[0, 0, 0, len, kind, 0, 0, 0, 0, 0, 0, 0, id]);
+    bytes
+}
+
+// Two fetches over a stream that gives these bytes, and whether each of them is the right answer.
+fn check_fetches<R: Abort + Wait>(
+    rt: &R,
+    alloc: Global,
+    first: &[u8],
+    second: &[u8],
+    right: [bool; 2],
+) -> Result<(), Fail> {
+    let mut bytes = Image::from_slice(alloc, first)?;
+    bytes.extend_from_slice(second)?;
+    let source = ByteSource::new(bytes, Numbers::new(alloc));
+    let mut sink = ByteSink::new(alloc, Numbers::new(alloc));
+    sink.reserve(34)?;
+    let mut link = StreamLink::new(alloc, &small()?, source, sink)?;
+    let answers = (fetch(rt, &mut link), fetch(rt, &mut link));
+    assert_eq!(rt;
+        answers.0,
+        if right[0] {
+            Ok([7; 2 * LEN])
+        } else {
+            Err(Failed)
+        }
+    );
+    assert_eq!(rt;
+        answers.1,
+        if right[1] {
+            Ok([7; 2 * LEN])
+        } else {
+            Err(Failed)
+        }
+    );
+    let (_, sink) = link.into_parts();
+    let asked = [0, 0, 0, 13, 1, 0, 0, 0, 0, 0, 0, 0, 5, 0, 0, 0, 1];
+    assert_eq!(rt; sink.bytes().len(), 34);
+    assert_eq!(rt; &sink.bytes()[..17], asked.as_slice());
+    assert_eq!(rt; &sink.bytes()[17..], asked.as_slice());
+    Ok(())
+}
+
+#[test]
+fn fetches_over_a_stream(rt: HostRuntime) -> Result<(), Fail> {
+    let alloc = rt.alloc();
+    let good = answer_of(65, 2, 5);
+    let none: &[u8] = &[];
+    let mut shorter = [7; 68];
+    shorter[..13].copy_from_slice(&[0, 0, 0, 64, 2, 0, 0, 0, 0, 0, 0, 0, 5]);
+    check_fetches(&rt, alloc, &good, &good, [true, true])?;
+    check_fetches(&rt, alloc, &answer_of(65, 2, 6), &good, [false, true])?;
+    check_fetches(&rt, alloc, &shorter, &good, [false, false])?;
+    check_fetches(
+        &rt,
+        alloc,
+        &[0, 0, 0, 5, 4, 0, 0, 0, 1],
+        &good,
+        [false, false],
+    )?;
+    check_fetches(&rt, alloc, &[0, 0, 0], none, [false, false])?;
+    check_fetches(&rt, alloc, &[2, 0, 0, 1], &good, [false, true])?;
+    Ok(())
+}
+
+#[test]
+fn stores_over_a_stream(rt: HostRuntime) -> Result<(), Fail> {
+    let alloc = rt.alloc();
+    let answers = [0, 0, 0, 5, 4, 0, 0, 0, 2, 0, 0, 0, 5, 4, 0, 0, 0, 3];
+    let source = ByteSource::new(Image::from_slice(alloc, &answers)?, Numbers::new(alloc));
+    let mut sink = ByteSink::new(alloc, Numbers::new(alloc));
+    sink.reserve(74)?;
+    let p = small()?;
+    let order = order_of(&rt, alloc, &p, 2, &bucket(1, 10))?;
+    let mut link = StreamLink::new(alloc, &p, source, sink)?;
+    assert_eq!(rt; store(&rt, &mut link, &order), Ok(()));
+    assert_eq!(rt; store(&rt, &mut link, &order), Err(Failed));
+    assert_eq!(rt; store(&rt, &mut link, &order), Err(Failed));
+    let (_, sink) = link.into_parts();
+    assert_eq!(rt; sink.bytes().len(), 74);
+    assert_eq!(rt; &sink.bytes()[..9], [0, 0, 0, 33, 3, 0, 0, 0, 2].as_slice());
+    assert_eq!(rt; &sink.bytes()[9..37], bucket(1, 10).as_slice());
+    Ok(())
+}
+
+#[test]
+fn byte_by_byte(rt: HostRuntime) -> Result<(), Fail> {
+    let alloc = rt.alloc();
+    let bytes = Image::from_slice(alloc, &answer_of(65, 2, 5))?;
+    let source = SlowSource {
+        inner: ByteSource::new(bytes, Numbers::new(alloc)),
+    };
+    let mut inner = ByteSink::new(alloc, Numbers::new(alloc));
+    inner.reserve(17)?;
+    let mut link = StreamLink::new(alloc, &small()?, source, SlowSink { inner })?;
+    assert_eq!(rt; fetch(&rt, &mut link), Ok([7; 2 * LEN]));
+    Ok(())
 }

@@ -1,11 +1,7 @@
-use Rattle.std.proofs.Common.{◌≡◌, ℕ, ◌-◌, ◌+◌, ◌*◌, List, [], ◌∷◌, ◌++◌, length, refl, ap, ap₂, sym, subst, ◌∙◌, arith}
-use Rattle.std.specs.List.{All}
-use Rattle.tao_base.specs.Links.{asked_of}
-use Rattle.tao_base.specs.declared.links.Asked.{Asked}
+use Rattle.std.proofs.Common.{◌≡◌, ◌-◌, ap, ap₂, ◌∙◌, arith}
 use Rattle.tao_base.specs.declared.links.Asked.TheVariants.{Fetch}
-use Rattle.tao_tree.specs.Ledgers.{LedgerState, HasLen, asked, answered, acknowledged, asked_in}
-use Rattle.tao_tree.specs.declared.ledger.Note.TheVariants.{Sent}
-use Rattle.tao_tree.proofs.NoteLemmas.{state, asked_fetch, noted_fetch, asked_store, noted_store, WithStore, images_left}
+use Rattle.tao_tree.specs.Ledgers.{asked, asked_in}
+use Rattle.tao_tree.proofs.NoteLemmas.{state, asked_fetch, noted_fetch}
 use Rattle.tao_tree.proofs.ledger.Ledger.add_failed_fetch.Goals as goal
 
 pub invariant_of-self : goal.invariant_of-self

@@ -1,11 +1,7 @@
-use Rattle.std.proofs.Common.{◌≡◌, ℕ, ◌-◌, ◌+◌, ◌*◌, List, [], ◌∷◌, ◌++◌, length, refl, ap, ap₂, sym, subst, ◌∙◌, arith}
-use Rattle.std.specs.List.{All}
+use Rattle.std.proofs.Common.{◌≡◌, ◌-◌, ◌*◌, [], ◌∷◌, ◌++◌, length, ap, ap₂, sym, ◌∙◌, arith}
 use Rattle.tao_base.specs.Links.{asked_of}
-use Rattle.tao_base.specs.declared.links.Asked.{Asked}
-use Rattle.tao_base.specs.declared.links.Asked.TheVariants.{Fetch}
-use Rattle.tao_tree.specs.Ledgers.{LedgerState, HasLen, asked, answered, acknowledged, asked_in}
-use Rattle.tao_tree.specs.declared.ledger.Note.TheVariants.{Sent}
-use Rattle.tao_tree.proofs.NoteLemmas.{state, asked_fetch, noted_fetch, asked_store, noted_store, WithStore, images_left}
+use Rattle.tao_tree.specs.Ledgers.{asked}
+use Rattle.tao_tree.proofs.NoteLemmas.{state, asked_store, noted_store, WithStore, images_left}
 use Rattle.tao_tree.proofs.ledger.Ledger.add_failed_store.Goals as goal
 
 abbrev stored_notes : (c : goal.After-append_within-2) → WithStore c.self.inside.notes.items c.push_reserved.new.self.items c.args.order.now.version c.args.order.now.nonce c.self.inside.nodes.items c.self.inside.images.items c.append_within.new.list.items c.append_within-2.new.list.items c.args.order.now.nodes c.args.order.now.image

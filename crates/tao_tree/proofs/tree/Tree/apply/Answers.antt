@@ -1,7 +1,7 @@
-use Rattle.std.proofs.Common.{◌≡◌, ℕ, ◌-◌, ◌*◌, List, length, slice_set, Some, Bool, true, false, if◌then◌else◌, ap, sym, ◌∙◌, arith}
+use Rattle.std.proofs.Common.{◌≡◌, ℕ, ◌-◌, ◌*◌, List, length, slice_set, Some, Bool, if◌then◌else◌, ap, sym, ◌∙◌, arith}
 use Rattle.tao_base.specs.Limits.{bucket_len}
 use Rattle.tao_base.specs.Tree.{node_count}
-use Rattle.tao_tree.specs.Nodes.{TreeState, holding, version_at, is_newer, applied}
+use Rattle.tao_tree.specs.Nodes.{TreeState, holding, version_at, is_newer}
 use Rattle.tao_tree.proofs.Places.{known_at, rewritten, tree_written}
 use Rattle.tao_tree.proofs.tree.Tree.apply.Goals as goal
 

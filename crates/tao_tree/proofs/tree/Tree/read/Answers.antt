@@ -1,4 +1,4 @@
-use Rattle.std.proofs.Common.{◌≡◌, ◌-◌, ◌*◌, length, take, drop, sym, ap, ◌∙◌, arith}
+use Rattle.std.proofs.Common.{◌≡◌, ◌-◌, length, sym, ap, ◌∙◌, arith}
 use Rattle.tao_base.specs.Limits.{bucket_len}
 use Rattle.tao_base.specs.Tree.{node_count}
 use Rattle.tao_tree.specs.Nodes.{bytes_at}
