@@ -1,0 +1,7 @@
+pub mod AnswerLemmas
+pub mod ImageLemmas
+pub mod NoteLemmas
+pub mod PathLemmas
+pub mod Places
+pub mod TransferLemmas
+pub mod WriteLemmas

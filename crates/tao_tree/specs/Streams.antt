@@ -1,0 +1,63 @@
+-- What a link over a stream gives and takes.
+use Rattle.std.specs.Prelude.{◌≡◌, ◌≢◌, ◌⊎◌, ℕ, ◌+◌, ◌*◌, ◌<◌, ◌≤◌, List, ◌++◌, length, take, min, max, Option}
+use Rattle.std.specs.Io.KnownBytes.{Appends, Consumes, IsAtEnd}
+use Rattle.std.specs.Int.{w32, to_be_bytes}
+use Rattle.tao_base.specs.Limits.{Shape, IsShape, bucket_len}
+use Rattle.tao_base.specs.Links.{Reach}
+use Rattle.tao_base.specs.Tree.{node_count}
+use Rattle.tao_wire.specs.Frames.{frame}
+use Rattle.tao_wire.specs.declared.message.Message.{Message}
+use Rattle.tao_wire.specs.declared.message.Message.TheVariants.{Path, Stored}
+
+-- a link over a stream: its parameters, the stream's two halves, and how many wrong answers came
+pub record StreamState (S K : Type 0) : Type 0 where
+  pub shape : Shape
+  pub source : S
+  pub sink : K
+  pub wrong : ℕ
+
+-- the bytes of a path
+abbrev pub path_len : Shape → ℕ
+path_len s = (s.l + 1) * bucket_len s
+
+-- a store may have as many buckets as a write-back or as a part of the load has, or as the tree has nodes
+abbrev pub stream_reach : Shape → Reach
+stream_reach s = record { height = s.l; bucket_len = bucket_len s; most = min (node_count s.l) (max 256 (s.k * (s.l + 1))) }
+
+-- of these bytes a part at their front was put, or all of them
+pub record AppendsPart (old new : Option (List ℕ)) (bytes : List ℕ) : Type 0 where
+  pub part : ℕ
+  pub within : part ≤ length bytes
+  pub front : Appends old new (take part bytes)
+
+-- what came is no frame with so long a content: its length field is another, or the source ended within it
+pub record ConsumesOther (old new : Option (List ℕ)) (len : ℕ) : Type 0 where
+  pub came : List ℕ
+  pub taken : Consumes old new came
+  pub other : ((length came ≡ 4) × (came ≢ to_be_bytes w32 len)) ⊎ ((length came < 4 + len) × IsAtEnd new)
+
+-- no wanted answer has a frame that begins with these bytes
+abbrev pub IsNoFront : (Message → Type 0) → List ℕ → Type 0
+IsNoFront IsWanted bytes = (message : Message) (rest : List ℕ) → IsWanted message → frame message ≡ bytes ++ rest → ⊥
+
+-- What came is a wrong answer: no wanted one has a frame that begins so, or the source ended within its frame, whose content is so long.
+pub record ConsumesWrong (old new : Option (List ℕ)) (IsWanted : Message → Type 0) (len : ℕ) : Type 0 where
+  pub came : List ℕ
+  pub taken : Consumes old new came
+  pub wrong : IsNoFront IsWanted came ⊎ ((length came < 4 + len) × IsAtEnd new)
+
+-- the wanted answer to a fetch, and to a store
+abbrev pub AnswersFetch : ℕ → ℕ → Message → Type 0
+AnswersFetch id len message = (image : List ℕ) × (length image ≡ len) × (message ≡ Path id image)
+
+abbrev pub AnswersStore : ℕ → Message → Type 0
+AnswersStore version message = message ≡ Stored version
+
+-- the room for the kind byte, the id and the path of an answer
+pub record HasPathRoom (s : Shape) (len : ℕ) : Type 0 where
+  pub shape : IsShape s
+  pub room : len ≡ 9 + path_len s
+
+-- a link to which no wrong answer came yet
+abbrev pub new_stream : {S K : Type 0} → Shape → S → K → StreamState S K
+new_stream s source sink = record { shape = s; source = source; sink = sink; wrong = 0 }

@@ -1,0 +1,23 @@
+//! The tree that the server keeps, and the links that lead to it.
+#![tactic(auto)]
+
+mod forgeries;
+mod laws;
+mod ledger;
+mod mem_link;
+mod paths;
+mod shared;
+mod stream_link;
+#[cfg(test)]
+mod tests;
+mod transfers;
+mod tree;
+mod tree_link;
+
+pub use forgeries::Forgery;
+pub use laws::newest_stays;
+pub use mem_link::MemLink;
+pub use shared::SharedTree;
+pub use stream_link::StreamLink;
+pub use tree::Tree;
+pub use tree_link::TreeLink;

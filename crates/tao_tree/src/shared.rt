@@ -1,0 +1,77 @@
+//! A tree that many threads reach. What it holds changes under the lock, so nothing is said of it; only its parameters stay.
+ghost use Rattle.std.specs.Prelude.{◌≡◌, ◌+◌, ◌*◌, ◌^◌, ◌<◌, length};
+ghost use Rattle.tao_base.specs.Limits.{IsShape, bucket_len};
+
+use crate::paths::{apply_all, read_path};
+use crate::tree::Tree;
+use std::marker::Model;
+use std::sync::{Mutex, Wait};
+use tao_base::Params;
+
+/// A tree behind a lock.
+#[derive(Drop)]
+pub struct SharedTree {
+    p: Params,
+    tree: Mutex<Tree>,
+}
+
+impl Model for SharedTree {
+    ghost use Rattle.tao_base.specs.Limits.{Shape, IsShape};
+
+    ghost Value = { Shape };
+
+    ghost view = { λ s. s.p };
+
+    ghost invariant = { λ s. IsShape s.p };
+}
+
+impl SharedTree {
+    ghost use Rattle.tao_tree.specs.Nodes.{IsSomePath, IsWhole};
+
+    pub fn new(tree: Tree) -> SharedTree
+        ensures { result ≡ tree.shape }
+    {
+        SharedTree {
+            p: *tree.params(),
+            tree: Mutex::new(tree),
+        }
+    }
+
+    /// The parameters that the tree was made for.
+    pub fn params(&self) -> &Params
+        ensures value { result.now ≡ self.now }
+        ensures shape { IsShape self.now }
+    {
+        &self.p
+    }
+
+    /// Copies the buckets of the path to the leaf, the root's first, as they are at one moment.
+    pub fn fetch_path<R: Wait>(&self, rt: &R, leaf: u32, out: &mut [u8])
+        requires leaf { leaf < 2 ^ self.now.l }
+        requires len { length out.old ≡ (self.now.l + 1) * bucket_len self.now }
+        ensures { IsSomePath self.now leaf out.new }
+    {
+        let tree = self.tree.lock(rt);
+        // the lock doesn't tell that its tree still has the parameters that it came with
+        if *tree.params() == self.p {
+            read_path(&tree, leaf, out);
+        } else {
+            out.fill(0);
+        }
+    }
+
+    /// Applies each bucket of the image at the node in its header, with this version.
+    pub fn store_all<R: Wait>(&self, rt: &R, version: u32, image: &[u8])
+        requires { IsWhole self.now image.now }
+    {
+        let mut tree = self.tree.lock(rt);
+        if *tree.params() == self.p {
+            apply_all(&mut tree, version, image);
+        }
+    }
+
+    /// The tree, once no link leads to it any more.
+    pub fn into_tree(self) -> Tree {
+        self.tree.into_inner()
+    }
+}
