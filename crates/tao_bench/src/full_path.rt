@@ -29,7 +29,9 @@ pub(crate) fn checksum(alloc: Global, n: u32, count: u32) -> Result<u64, anyhow:
 }
 
 // How many blocks the path and the stash have.
-fn block_count(p: &Params) -> u32 {
+fn block_count(p: &Params) -> u32
+    ensures { 0 < result }
+{
     p.z() * (p.l() + 1) + IN_STASH
 }
 

@@ -1,23 +1,22 @@
 -- What is gathered and placed anew is the eviction.
-use Rattle.std.proofs.Common.{◌≡◌, ℕ, zero, suc, ◌+◌, ◌^◌, ◌<◌, ◌≤◌, Bool, true, false, ◌&&◌, ◌||◌, cond, List, [], ◌∷◌, ◌++◌, length, map, fold, get_or, All, Some, is_some, nat_eq, nat_lt, refl, sym, ap, ◌∙◌, subst, arith, inl, inr, ◌⊎◌}
+use Rattle.std.proofs.Common.{◌≡◌, ℕ, zero, suc, ◌+◌, ◌^◌, ◌<◌, ◌≤◌, Bool, true, false, cond, List, [], ◌∷◌, length, map, fold, get_or, All, Some, nat_eq, refl, sym, ap, ◌∙◌, subst, arith, inl, inr, ◌⊎◌}
 use Rattle.std.specs.List.{range_with_len}
 use Rattle.std.proofs.lemmas.Bool.{ne_eqb, eq-eqb, eqb-true, cases_Bool, or_parts, or_cases, true≢false}
 use Rattle.std.proofs.lemmas.List.{same_lists}
 use Rattle.std.proofs.lemmas.Simd.{map-map}
 use Rattle.std.proofs.lemmas.List.FromFn.{get_or-map-range_with_len, length-map-range_with_len}
-use Rattle.std.proofs.lemmas.List.Elements.{All-head, All-tail, All-nil, All-push, All-weaker}
+use Rattle.std.proofs.lemmas.List.Elements.{All-nil}
 use Rattle.tao_base.specs.declared.storage.Entry.{Entry}
 use Rattle.tao_base.specs.Limits.{Shape}
-use Rattle.tao_base.specs.Tree.{node_at, node_count, path, is_on_path}
+use Rattle.tao_base.specs.Tree.{node_at, node_count, path}
 use Rattle.tao_base.proofs.TreeLemmas.{one_le_node}
-use Rattle.tao_model.specs.Placement.{Rises, look, IsPlaced, IsEvicted, may_evict, first_copy, with_stash}
-use Rattle.tao_model.specs.Passes.{gather, gathered_from, deepest, spot, put_at, put_next, one_pass}
+use Rattle.tao_model.specs.Placement.{Rises, look, IsPlaced, IsEvicted, may_evict, first_copy}
+use Rattle.tao_model.specs.Passes.{gather, gathered_from, one_pass}
 use Rattle.tao_model.specs.Evictions.{evicted}
 use Rattle.tao_model.proofs.OnePlacement.{placed_alike}
 use Rattle.tao_model.proofs.OneEviction.{eviction_is_placed, eviction_gathers}
 use Rattle.tao_model.proofs.OnePass.{pass_places}
 use Rattle.tao_model.proofs.FirstCopies.{gathers_first, gathers_stash}
-use Rattle.tao_model.proofs.RisingEntries.{look_here}
 use Rattle.tao_model.proofs.FallingPaths.{has}
 use Rattle.tao_flush.specs.Blocks.{IsEntry, IsStash, AreNodeEntries}
 use Rattle.tao_flush.specs.Paths.{with_lists, laid_out, Evicts}

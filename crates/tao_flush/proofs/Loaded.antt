@@ -1,5 +1,5 @@
 -- The pass over the blocks is the load.
-use Rattle.std.proofs.Common.{◌≡◌, ℕ, zero, suc, ◌+◌, ◌-◌, ◌^◌, ◌<◌, ◌≤◌, Bool, true, false, ◌&&◌, cond, List, [], ◌∷◌, ◌++◌, length, take, map, set, get_or, All, Option, Some, None, nat_eq, nat_lt, refl, sym, ap, ◌∙◌, subst, arith, inl, inr, ◌⊎◌}
+use Rattle.std.proofs.Common.{◌≡◌, ℕ, ◌+◌, ◌-◌, ◌^◌, ◌<◌, ◌≤◌, Bool, true, ◌&&◌, List, [], ◌∷◌, ◌++◌, length, map, set, get_or, All, Option, Some, None, nat_lt, refl, sym, ap, ◌∙◌, subst, arith, inl, inr, ◌⊎◌}
 use Rattle.std.proofs.Common.{append-nil}
 use Rattle.std.specs.List.{range_with_len}
 use Rattle.std.proofs.lemmas.Bool.{ne_eqb, eq-eqb, lt-ltb, cases_eq, and_parts}
@@ -10,18 +10,18 @@ use Rattle.tao_base.specs.declared.storage.Entry.{Entry}
 use Rattle.tao_base.specs.declared.storage.Bucket.{Bucket}
 use Rattle.tao_base.specs.Limits.{Shape}
 use Rattle.tao_base.specs.Array.{block_at}
-use Rattle.tao_base.specs.Tree.{node_at, node_count, path, is_on_path}
+use Rattle.tao_base.specs.Tree.{node_at, node_count, is_on_path}
 use Rattle.tao_base.proofs.TreeLemmas.{one_le_node}
 use Rattle.tao_model.specs.Placement.{IsPlaced, IsLoad, may_load, block_below, with_stash, entries_at}
-use Rattle.tao_model.specs.Passes.{spot, put_at, put_next, one_pass}
+use Rattle.tao_model.specs.Passes.{spot, put_at, one_pass}
 use Rattle.tao_model.specs.Evictions.{block_entry, block_entries, first_bucket, load_contents, load_buckets}
 use Rattle.tao_model.specs.Greatest.{IsLast}
 use Rattle.tao_model.proofs.OneLoad.{load_pass, load_is_placed}
 use Rattle.tao_model.proofs.OnePlacement.{one_placement}
 use Rattle.tao_model.proofs.OnePass.{pass_more}
-use Rattle.tao_model.proofs.FallingPaths.{has, on_path_has}
+use Rattle.tao_model.proofs.FallingPaths.{on_path_has}
 use Rattle.tao_flush.specs.Blocks.{IsEntry, IsStash, AreNodeEntries}
-use Rattle.tao_flush.specs.Loads.{IsLoaded, LoadsNext, bucket_of, has_room, next_loaded, loaded_first}
+use Rattle.tao_flush.specs.Loads.{IsLoaded, LoadsNext, has_room, next_loaded, loaded_first}
 use Rattle.tao_flush.proofs.PathNodes.{node_or_stash, node_within, on_own_path, deepest_on_path, last_alike}
 use Rattle.tao_flush.proofs.WholePasses.{pass_keeps}
 

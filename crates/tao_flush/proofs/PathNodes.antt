@@ -1,15 +1,13 @@
 -- The nodes of a path, and the greatest of them that passes a test.
-use Rattle.std.proofs.Common.{◌≡◌, ℕ, ◌+◌, ◌-◌, ◌*◌, ◌^◌, ◌<◌, ◌≤◌, Bool, true, false, List, length, map, get_or, Option, Some, None, Contains, IsTrue, nat_eq, refl, sym, ap, ◌∙◌, subst, arith, inl, inr, ◌⊎◌}
-use Rattle.std.specs.List.{range_with_len}
-use Rattle.std.specs.Option.{option_map_or}
+use Rattle.std.proofs.Common.{◌≡◌, ℕ, ◌+◌, ◌*◌, ◌^◌, ◌<◌, ◌≤◌, Bool, true, false, length, Option, Some, None, nat_eq, refl, sym, ap, ◌∙◌, arith, inl, inr, ◌⊎◌}
 use Rattle.std.proofs.Math.Pow.{pow_mono}
 use Rattle.std.proofs.lemmas.Nat.{pow-add}
-use Rattle.std.proofs.lemmas.Bool.{cases_order, eq-eqb, cases_lt, true≢false, false_from_ne_true}
+use Rattle.std.proofs.lemmas.Bool.{cases_order, eq-eqb, true≢false, false_from_ne_true}
 use Rattle.std.proofs.lemmas.List.FromFn.{get_or-map-range_with_len, length-map-range_with_len}
 use Rattle.tao_base.specs.Tree.{node_at, node_count, path, is_on_path}
-use Rattle.tao_base.proofs.TreeLemmas.{node_low, node_high, one_le_node, on_path_member, on_path_depth}
+use Rattle.tao_base.proofs.TreeLemmas.{node_low, node_high, on_path_member, on_path_depth}
 use Rattle.tao_model.specs.Passes.{deepest}
-use Rattle.tao_model.specs.Greatest.{IsGreatest, IsLast}
+use Rattle.tao_model.specs.Greatest.{IsLast}
 use Rattle.tao_model.proofs.GreatestNumbers.{one_greatest}
 use Rattle.tao_model.proofs.OnePass.{deepest_is}
 use Rattle.tao_model.proofs.FallingPaths.{has, on_path_has}

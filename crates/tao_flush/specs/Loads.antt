@@ -1,5 +1,5 @@
 -- The load of a tree, and the pass that makes it.
-use Rattle.std.specs.Prelude.{◌≡◌, ℕ, ◌-◌, nat_lt, Bool, List, [], ◌∷◌, ◌++◌, take, length, Option}
+use Rattle.std.specs.Prelude.{◌≡◌, ℕ, ◌-◌, nat_lt, Bool, List, [], ◌++◌, take, length, Option}
 use Rattle.std.specs.List.{slice_index_or}
 use Rattle.std.specs.Option.{option_to_list}
 use Rattle.tao_base.specs.declared.storage.Entry.{Entry}

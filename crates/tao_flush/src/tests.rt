@@ -27,7 +27,13 @@ fn entries_of(alloc: Global, p: &Params, ids: &[u32], byte: u8) -> Result<Entrie
     Ok(entries)
 }
 
-fn add_entry(alloc: Global, p: &Params, entries: &mut Entries, id: u32, byte: u8) -> Result<(), NoMemory>
+fn add_entry(
+    alloc: Global,
+    p: &Params,
+    entries: &mut Entries,
+    id: u32,
+    byte: u8,
+) -> Result<(), NoMemory>
     requires { AreNodeEntries p.now entries.old }
     ensures { IfOk result (λ _. AreNodeEntries p.now entries.new) }
 {
@@ -138,7 +144,11 @@ fn a_path_is_filled_from_the_leaf(rt: HostRuntime) -> Result<(), Fail> {
 #[test]
 fn the_first_copy_counts(rt: HostRuntime) -> Result<(), Fail> {
     let p = Params::new(2, 2, 4, 4, 1)?;
-    let nodes = [([3, 1].as_slice(), 6), ([2, 3].as_slice(), 7), ([2, 2].as_slice(), 8)];
+    let nodes = [
+        ([3, 1].as_slice(), 6),
+        ([2, 3].as_slice(), 7),
+        ([2, 2].as_slice(), 8),
+    ];
     let wanted = [(1, 2, 7), (3, 1, 9), (3, 3, 6)];
     for times in 1..3 {
         let rows = evicted(rt.alloc(), &p, &[1, 4, 3, 0], &[1], &nodes, times)?;
@@ -175,7 +185,10 @@ fn show_nodes(rows: &mut Vec<Row>, nodes: &[Bucket]) -> Result<(), NoMemory> {
 fn a_load_goes_up_from_the_leaf(rt: HostRuntime) -> Result<(), Fail> {
     let p = Params::new(2, 1, 4, 4, 1)?;
     let rows = loaded(rt.alloc(), &p, &[0, 4, 8, 12])?;
-    assert_eq!(rt; rows.as_slice(), [(0, 3, 3), (1, 2, 2), (2, 1, 1), (4, 0, 0)].as_slice());
+    assert_eq!(rt;
+        rows.as_slice(),
+        [(0, 3, 3), (1, 2, 2), (2, 1, 1), (4, 0, 0)].as_slice()
+    );
     Ok(())
 }
 
@@ -198,6 +211,9 @@ fn the_stash_is_a_map(rt: HostRuntime) -> Result<(), Fail> {
     assert_eq!(rt; three.as_slice(), [9; 4].as_slice());
     let mut rows = Vec::new(rt.alloc());
     show(&mut rows, 0, &stash.entries)?;
-    assert_eq!(rt; rows.as_slice(), [(0, 0, 9), (0, 1, 9), (0, 3, 9)].as_slice());
+    assert_eq!(rt;
+        rows.as_slice(),
+        [(0, 0, 9), (0, 1, 9), (0, 3, 9)].as_slice()
+    );
     Ok(())
 }

@@ -1,5 +1,4 @@
 use Rattle.std.proofs.Common.{◌≡◌, sym, ap, ◌∙◌, subst, arith}
-use Rattle.tao_base.specs.Limits.{Shape}
 use Rattle.tao_flush.specs.Blocks.{IsStash}
 use Rattle.tao_flush.specs.State.{leaf_in}
 use Rattle.tao_flush.proofs.Evicted.{evicts, stash_fits, nodes_fit}

@@ -1,4 +1,4 @@
-use Rattle.std.proofs.Common.{◌≡◌, ◌<◌, ◌^◌, ap, subst, arith}
+use Rattle.std.proofs.Common.{◌<◌, ◌^◌, subst}
 use Rattle.tao_flush.specs.State.{leaf_in}
 use Rattle.tao_flush.proofs.PlacedLists.{places_there, places_none}
 use Rattle.tao_flush.proofs.placing.place_entry.Goals as goal

@@ -1,4 +1,4 @@
-use Rattle.std.proofs.Common.{refl, arith}
+use Rattle.std.proofs.Common.{arith}
 use Rattle.tao_flush.proofs.RisingLists.{set_puts, set_keeps, insert_puts, insert_keeps, room_left}
 use Rattle.tao_flush.proofs.stash.put_entry.Goals as goal
 
