@@ -4,7 +4,10 @@
 
 mod checksum;
 mod codec;
+mod copy;
+mod flush;
 mod frames;
+mod full_path;
 mod keystream;
 mod sequence;
 mod xor;
@@ -29,6 +32,10 @@ fn main(rt: HostRuntime) -> Result<(), anyhow::Error> {
             "xor" => xor::checksum(count),
             "frames" => frames::checksum(alloc, count)?,
             "sequence" => sequence::checksum(alloc, count)?,
+            "copy" => copy::checksum(alloc, count)?,
+            "flush" => flush::checksum(alloc, count)?,
+            "flush-1024" => full_path::checksum(alloc, 1_024, count)?,
+            "flush-524288" => full_path::checksum(alloc, 524_288, count)?,
             _ => bail!("no such command"),
         };
         println!(rt; "{command} {checksum}")?;

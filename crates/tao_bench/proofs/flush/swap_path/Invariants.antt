@@ -1,0 +1,12 @@
+use Rattle.std.proofs.Common.{◌≡◌, ◌+◌, length, All}
+use Rattle.tao_base.specs.Tree.{node_count}
+use Rattle.tao_flush.specs.Blocks.{AreNodeEntries}
+use Rattle.tao_bench.proofs.flush.swap_path.Given as goal
+
+abbrev pub invariant-loop-depth : goal.invariant-loop-depth
+invariant-loop-depth l = record {
+  path : length l.path ≡ l.p.l + 1;
+  entries : All (AreNodeEntries l.p) l.path;
+  nodes : length l.nodes ≡ node_count l.p.l;
+  buckets : All (λ bucket. AreNodeEntries l.p bucket.entries) l.nodes;
+}

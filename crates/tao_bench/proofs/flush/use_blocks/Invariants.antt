@@ -1,0 +1,14 @@
+use Rattle.std.proofs.Common.{◌≡◌, ◌+◌, length, All}
+use Rattle.tao_base.specs.Tree.{node_count}
+use Rattle.tao_flush.specs.Blocks.{AreNodeEntries}
+use Rattle.tao_bench.proofs.flush.use_blocks.Given as goal
+
+abbrev pub invariant-loop-turn : goal.invariant-loop-turn
+invariant-loop-turn l = record {
+  positions : l.positions.shape ≡ l.p;
+  stash : l.stash.shape ≡ l.p;
+  path : length l.path ≡ l.p.l + 1;
+  entries : All (AreNodeEntries l.p) l.path;
+  nodes : length l.nodes ≡ node_count l.p.l;
+  buckets : All (λ bucket. AreNodeEntries l.p bucket.entries) l.nodes;
+}
