@@ -146,12 +146,14 @@ fn writes(form: Form, format: u8) -> bool
     }
 }
 
-// The faults of the buckets of node 1, which is empty, and of node 3, which has block 0, with these bytes of the two xored.
+// The faults of the buckets of node 1, which is empty, and of node 3, which has block 0, with these bytes of the two xored, where these
+// nodes are wanted.
 fn path_faults(
     rt: &impl Abort,
     alloc: Global,
     p: &Params,
     format: u8,
+    wants: (u32, u32),
     changes: [(usize, u8); 2],
 ) -> Result<(Option<BucketFault>, Option<BucketFault>), NoMemory> {
     let len = p.bucket_len() as usize;
@@ -164,8 +166,9 @@ fn path_faults(
             path[at] ^= mask;
         }
     }
-    let root = fault_of(alloc, p, 1, format, &path[..len])?;
-    Ok((root, fault_of(alloc, p, 3, format, &path[len..2 * len])?))
+    let root = fault_of(alloc, p, wants.0, format, &path[..len])?;
+    let leaf = fault_of(alloc, p, wants.1, format, &path[len..2 * len])?;
+    Ok((root, leaf))
 }
 
 #[test]
@@ -186,11 +189,16 @@ fn altered_paths(rt: HostRuntime) -> Result<(), Fail> {
         ([(52, 1), (0, 0)], None, None),
     ] {
         assert_eq!(rt;
-            path_faults(&rt, alloc, &p, 1, changes)?,
+            path_faults(&rt, alloc, &p, 1, (1, 3), changes)?,
             (root, leaf),
             "at {changes:?}"
         );
     }
+    // the two buckets swapped
+    assert_eq!(rt;
+        path_faults(&rt, alloc, &p, 1, (3, 1), [(0, 0), (0, 0)])?,
+        (Some(BucketFault::Node), Some(BucketFault::Node))
+    );
     Ok(())
 }
 
@@ -214,7 +222,7 @@ fn altered_tags(rt: HostRuntime) -> Result<(), Fail> {
         (turn, 1, (0, 0), None, None),
     ] {
         assert_eq!(rt;
-            path_faults(&rt, alloc, &p, format, [change, (0, 0)])?,
+            path_faults(&rt, alloc, &p, format, (1, 3), [change, (0, 0)])?,
             (root, leaf),
             "at {format} {change:?}"
         );

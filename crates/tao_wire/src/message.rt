@@ -38,6 +38,11 @@ pub enum WireFault {
 }
 
 impl fmt::Display for WireFault {
+    ghost use Rattle.std.specs.Prelude.{Some};
+    ghost use Rattle.tao_wire.specs.Names.{fault_name};
+
+    ghost output = { λ fault. Some (fault_name fault) };
+
     fn fmt<W: fmt::Write>(&self, f: &mut fmt::Formatter<W>) -> fmt::Result {
         match self {
             WireFault::Long => write!(f, "Long"),

@@ -144,6 +144,27 @@ fn messages_with_a_list(rt: HostRuntime) -> Result<(), Fail> {
     Ok(())
 }
 
+// Whether the frame of a Get is handed out at this limit, and the fault.
+fn get_at(alloc: Global, limit: u32) -> Result<(bool, Option<WireFault>), NoMemory>
+    requires low { 1 ≤ limit }
+    requires high { limit ≤ 2 ^ 25 }
+{
+    let mut decoder = Decoder::new(alloc, limit)?;
+    decoder.feed(b"\0\0\0\x05\x05\0\0\0\x07")?;
+    let mut out = Image::new(alloc);
+    let fault = drain(&mut decoder, &mut out)?;
+    Ok((out.as_slice().len() == 9, fault))
+}
+
+// a frame at the limit, and one above it
+#[test]
+fn frames_at_the_limit(rt: HostRuntime) -> Result<(), Fail> {
+    let alloc = rt.alloc();
+    assert_eq!(rt; get_at(alloc, 5)?, (true, None));
+    assert_eq!(rt; get_at(alloc, 4)?, (false, Some(WireFault::Long)));
+    Ok(())
+}
+
 // a faulty frame alone, and behind two good frames
 #[test]
 fn faulty_frames(rt: HostRuntime) -> Result<(), Fail> {

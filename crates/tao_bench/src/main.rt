@@ -1,0 +1,37 @@
+//! Runs the parts of the store that the speed of an access rests on. The words are pairs of a command and how often it is done; each
+//! pair writes the command and a checksum of what it made.
+#![tactic(auto)]
+
+mod checksum;
+mod codec;
+mod frames;
+mod keystream;
+mod slots;
+mod xor;
+
+use anyhow::{anyhow, bail};
+use std::env;
+
+fn main(rt: HostRuntime) -> Result<(), anyhow::Error> {
+    let alloc = rt.alloc();
+    let mut words = Vec::new(alloc);
+    for word in env::args(&rt)?.skip(1) {
+        words.push(word)?;
+    }
+    for pair in words.chunks(2) {
+        let [command, count] = pair else {
+            bail!("a command has no count");
+        };
+        let count = count.as_str().parse::<u32>()?;
+        let checksum = match command.as_str() {
+            "keystream" => keystream::checksum(count),
+            "codec" => codec::checksum(alloc, count)?,
+            "xor" => xor::checksum(count),
+            "frames" => frames::checksum(alloc, count)?,
+            "slots" => slots::checksum(alloc, count)?,
+            _ => bail!("no such command"),
+        };
+        println!(rt; "{command} {checksum}")?;
+    }
+    Ok(())
+}
