@@ -5,7 +5,7 @@ use std::alloc::Global;
 use tao_base::{Bucket, Entries, NoMemory, Params};
 use tao_slots::Slots;
 
-const FINDS: u32 = 100_000_000;
+const FINDS: u32 = 50_000_000;
 
 /// Holds so many nodes, from the root on, and finds held nodes in a scattered order; then again without the root.
 pub(crate) fn checksum(alloc: Global, count: u32) -> Result<u64, anyhow::Error> {
@@ -37,15 +37,15 @@ fn hold(alloc: Global, p: &Params, slots: &mut Slots, count: u32) -> Result<(), 
     Ok(())
 }
 
-// How many of so many finds, over the nodes from 1 to `count`, found a slot.
+// How many of so many finds, over the numbers below `count`, found a slot.
 fn found(slots: &Slots, count: u32) -> u64 {
     let mut word = 1u32;
     let mut found = 0u64;
     for _ in 0..FINDS {
         word = word.wrapping_mul(1_664_525).wrapping_add(1_013_904_223);
         let node = (u64::from(word) * u64::from(count)) >> 32;
-        if slots.find(node as u32 + 1).is_some() {
-            found += 1;
+        if slots.find(node as u32).is_some() {
+            found = found.wrapping_add(1);
         }
     }
     found
