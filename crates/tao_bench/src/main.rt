@@ -10,6 +10,7 @@ mod frames;
 mod full_path;
 mod keystream;
 mod sequence;
+mod slots;
 mod xor;
 
 use anyhow::{anyhow, bail};
@@ -36,6 +37,7 @@ fn main(rt: HostRuntime) -> Result<(), anyhow::Error> {
             "flush" => flush::checksum(alloc, count)?,
             "flush-1024" => full_path::checksum(alloc, 1_024, count)?,
             "flush-524288" => full_path::checksum(alloc, 524_288, count)?,
+            "slots" => slots::checksum(alloc, count)?,
             _ => bail!("no such command"),
         };
         println!(rt; "{command} {checksum}")?;
