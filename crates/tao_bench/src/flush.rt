@@ -19,9 +19,20 @@ pub(crate) fn checksum(alloc: Global, count: u32) -> Result<u64, anyhow::Error> 
     ensure!(blocks.len() == p.n() as usize, "a block has no value");
     let mut positions = Positions::new(alloc, &p, &words)?;
     let (mut nodes, mut stash) = load(alloc, &p, &positions, &blocks)?;
-    ensure!(nodes.as_slice().len() == p.nodes() as usize, "a node has no bucket");
+    ensure!(
+        nodes.as_slice().len() == p.nodes() as usize,
+        "a node has no bucket"
+    );
     let mut path = empty_path(alloc, &p)?;
-    use_blocks(alloc, &p, &mut positions, &mut path, nodes.as_mut_slice(), &mut stash, count)?;
+    use_blocks(
+        alloc,
+        &p,
+        &mut positions,
+        &mut path,
+        nodes.as_mut_slice(),
+        &mut stash,
+        count,
+    )?;
     Ok(entries_of(nodes.as_slice()))
 }
 
