@@ -2,16 +2,8 @@ pub mod Appended
 pub mod Cuts
 pub mod Numbers
 pub mod Tapes
-pub mod Plain
 pub mod Bodies
 pub mod HexCase
 pub mod ValueLaws
-pub mod FormLaws
 pub mod WordLaws
-pub mod FitLaws
-pub mod SpelledWords
-pub mod BodyLaws
-pub mod LinesLaws
-pub mod TextLaws
-pub mod ScriptLaws
 pub mod PrintLaws
