@@ -1,6 +1,6 @@
 //! Scripts are read, line by line.
 ghost use Rattle.std.specs.Prelude.{◌≡◌, ◌⊎◌, ◌^◌, ◌≤◌, ◌<◌, length, None, IfOk, IfErr};
-ghost use Rattle.tao_text.specs.Texts.{FirstBreak, IsScriptText};
+ghost use Rattle.tao_text.specs.Texts.{FirstBreak, IsScript, IsScriptText};
 ghost use Rattle.tao_text.specs.Scripts.{line_with, lines_with, no_memory, reading, GivesLine, GivesScript};
 ghost use Rattle.tao_text.specs.Values.{Gives};
 ghost use Rattle.tao_text.specs.Words.{lines};
@@ -19,7 +19,10 @@ const MOST_BYTES: usize = 1 << 24;
 /// The script that the bytes are, or their first break: the first line with a fault, counted from 1, and of its faults the kind of smallest
 /// number. A text of more than 2^24 bytes has the fault TooLong, and want of memory the fault Memory, both with line 0.
 pub fn read_script(alloc: Global, bytes: &[u8]) -> Result<Script, TextFault>
-    ensures { GivesScript result (reading bytes.now) }
+    ensures read { GivesScript result (reading bytes.now) }
+    ensures script { IfOk result (IsScriptText bytes.now) }
+    ensures limits { IfOk result IsScript }
+    ensures first_break { IfErr result (λ fault. (fault ≡ no_memory) ⊎ FirstBreak bytes.now fault) }
 {
     if MOST_BYTES < bytes.len() {
         return Err(TextFault {
