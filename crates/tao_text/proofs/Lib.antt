@@ -7,3 +7,5 @@ pub mod HexCase
 pub mod ValueLaws
 pub mod WordLaws
 pub mod PrintLaws
+pub mod SaidFaults
+pub mod SaidForms

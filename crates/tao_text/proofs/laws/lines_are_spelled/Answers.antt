@@ -1,0 +1,12 @@
+use Rattle.tao_text.proofs.SaidForms.{behind}
+use Rattle.std.proofs.Common.{rules}
+use Rattle.tao_text.proofs.laws.lines_are_spelled.Goals as goal
+
+pub returns-clause-said : goal.returns-clause-said
+returns-clause-said c = ?
+
+pub returns-clause-skipped : goal.returns-clause-skipped
+returns-clause-skipped c = ?
+
+pub returns-clause-fault : goal.returns-clause-fault
+returns-clause-fault c = ?
