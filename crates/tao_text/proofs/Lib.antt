@@ -9,3 +9,5 @@ pub mod WordLaws
 pub mod PrintLaws
 pub mod SaidFaults
 pub mod SaidForms
+pub mod SaidTable
+pub mod SaidWords

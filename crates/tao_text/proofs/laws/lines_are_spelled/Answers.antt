@@ -1,4 +1,5 @@
-use Rattle.tao_text.proofs.SaidForms.{behind}
+use Rattle.tao_text.proofs.SaidWords.{words_are}
+use Rattle.tao_text.proofs.SaidTable.{formed}
 use Rattle.std.proofs.Common.{rules}
 use Rattle.tao_text.proofs.laws.lines_are_spelled.Goals as goal
 
