@@ -11,3 +11,5 @@ pub mod SaidFaults
 pub mod SaidForms
 pub mod SaidTable
 pub mod SaidWords
+pub mod SaidKinds
+pub mod SaidLaws

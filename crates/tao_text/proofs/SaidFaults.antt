@@ -1,5 +1,5 @@
 -- The fault of a reading, and that of the words at the places of a line form.
-use Rattle.std.proofs.Common.{◌≡◌, ◌⊎◌, inl, inr, ℕ, zero, suc, ◌+◌, ◌<◌, List, [], ◌∷◌, length, slice_index_or, Option, Some, None, Result, Ok, Err, refl, ⊎_elim, sym, ap, subst, ◌∙◌, arith}
+use Rattle.std.proofs.Common.{◌≡◌, ◌⊎◌, inl, inr, ℕ, zero, suc, List, [], ◌∷◌, Option, Some, None, Result, Ok, Err, refl, ⊎_elim, sym, subst, ◌∙◌, arith}
 use Rattle.std.specs.Prelude.{Any}
 use Rattle.tao_text.specs.declared.faults.TextKind.{TextKind}
 use Rattle.tao_text.specs.declared.faults.TextKind.TheVariants.{Number, Hex}
@@ -75,39 +75,39 @@ any_cases P x xs (zero, y, inside, is, p) = inl (subst P (sym is) p)
 any_cases P x xs (suc k, y, inside, is, p) = inr (k, y, omega arith, is, p)
 
 -- some word isn't as it should be, and this is the fault; or all are, and it is a later one
-abbrev pub Finds : (List ℕ → Type 0) → TextKind → List (List ℕ) → Option TextKind → Option TextKind → Type 0
-Finds Bad kind words later fault = ((fault ≡ Some kind) × Any Bad words) ⊎ ((fault ≡ later) × (¬ Any Bad words))
+abbrev pub Shows : (List ℕ → Type 0) → TextKind → List (List ℕ) → Option TextKind → Option TextKind → Type 0
+Shows Bad kind words later fault = ((fault ≡ Some kind) × Any Bad words) ⊎ ((fault ≡ later) × (¬ Any Bad words))
 
-finds_none : (Bad : List ℕ → Type 0) (kind : TextKind) (later : Option TextKind) → Finds Bad kind [] later later
-finds_none Bad kind later = inr (refl, any_none Bad)
+shows_none : (Bad : List ℕ → Type 0) (kind : TextKind) (later : Option TextKind) → Shows Bad kind [] later later
+shows_none Bad kind later = inr (refl, any_none Bad)
 
-finds_here : (Bad : List ℕ → Type 0) (kind : TextKind) (word : List ℕ) (words : List (List ℕ)) (later : Option TextKind) → Bad word → Finds Bad kind (word ∷ words) later (Some kind)
-finds_here Bad kind word words later bad = inl (refl, any_here Bad word words bad)
+shows_here : (Bad : List ℕ → Type 0) (kind : TextKind) (word : List ℕ) (words : List (List ℕ)) (later : Option TextKind) → Bad word → Shows Bad kind (word ∷ words) later (Some kind)
+shows_here Bad kind word words later bad = inl (refl, any_here Bad word words bad)
 
-finds_later : (Bad : List ℕ → Type 0) (kind : TextKind) (word : List ℕ) (words : List (List ℕ)) (later fault : Option TextKind) → ¬ Bad word → Finds Bad kind words later fault → Finds Bad kind (word ∷ words) later fault
-finds_later Bad kind word words later fault good (inl found) = inl (found.0, any_later Bad word words found.1)
-finds_later Bad kind word words later fault good (inr none) = inr (none.0, λ any. ⊎_elim good none.1 (any_cases Bad word words any))
+shows_later : (Bad : List ℕ → Type 0) (kind : TextKind) (word : List ℕ) (words : List (List ℕ)) (later fault : Option TextKind) → ¬ Bad word → Shows Bad kind words later fault → Shows Bad kind (word ∷ words) later fault
+shows_later Bad kind word words later fault good (inl found) = inl (found.0, any_later Bad word words found.1)
+shows_later Bad kind word words later fault good (inr none) = inr (none.0, λ any. ⊎_elim good none.1 (any_cases Bad word words any))
 
 ok_or_err : {A : Type 0} (r : Result A TextKind) (x : A) (kind : TextKind) → r ≡ Ok x → r ≡ Err kind → ⊥
 ok_or_err (Ok y) x kind ok err = cc err
 ok_or_err (Err other) x kind ok err = cc ok
 
-number_finds : (word : List ℕ) (words : List (List ℕ)) (later fault : Option TextKind) (r : Result ℕ TextKind) → number_of word ≡ r
-    → Finds NoNumber Number words later fault → Finds NoNumber Number (word ∷ words) later (or_fault (fault_of r) fault)
-number_finds word words later fault (Ok n) is finds = finds_later NoNumber Number word words later fault (λ none. none (n, number_is word n is)) finds
-number_finds word words later fault (Err kind) is finds =
-    rw (no_number_fault word kind is) (finds_here NoNumber Number word words later (λ number. ok_or_err (number_of word) number.0 kind (number_reads word number.0 number.1) is))
+number_shows : (word : List ℕ) (words : List (List ℕ)) (later fault : Option TextKind) (r : Result ℕ TextKind) → number_of word ≡ r
+    → Shows NoNumber Number words later fault → Shows NoNumber Number (word ∷ words) later (or_fault (fault_of r) fault)
+number_shows word words later fault (Ok n) is shows = shows_later NoNumber Number word words later fault (λ none. none (n, number_is word n is)) shows
+number_shows word words later fault (Err kind) is shows =
+    rw (no_number_fault word kind is) (shows_here NoNumber Number word words later (λ number. ok_or_err (number_of word) number.0 kind (number_reads word number.0 number.1) is))
 
-pub numbers_find : (words : List (List ℕ)) (later : Option TextKind) → Finds NoNumber Number words later (numbers_fault words later)
-numbers_find [] later = finds_none NoNumber Number later
-numbers_find (word ∷ words) later = number_finds word words later (numbers_fault words later) (number_of word) refl (numbers_find words later)
+pub numbers_show : (words : List (List ℕ)) (later : Option TextKind) → Shows NoNumber Number words later (numbers_fault words later)
+numbers_show [] later = shows_none NoNumber Number later
+numbers_show (word ∷ words) later = number_shows word words later (numbers_fault words later) (number_of word) refl (numbers_show words later)
 
-hex_finds : (word : List ℕ) (words : List (List ℕ)) (fault : Option TextKind) (r : Result (List ℕ) TextKind) → hex_of word ≡ r
-    → Finds NoHex Hex words None fault → Finds NoHex Hex (word ∷ words) None (or_fault (fault_of r) fault)
-hex_finds word words fault (Ok bytes) is finds = finds_later NoHex Hex word words None fault (λ none. none (bytes, hex_is word bytes is)) finds
-hex_finds word words fault (Err kind) is finds =
-    rw (no_hex_fault word kind is) (finds_here NoHex Hex word words None (λ hex. ok_or_err (hex_of word) hex.0 kind (hex_reads word hex.0 hex.1) is))
+hex_shows : (word : List ℕ) (words : List (List ℕ)) (fault : Option TextKind) (r : Result (List ℕ) TextKind) → hex_of word ≡ r
+    → Shows NoHex Hex words None fault → Shows NoHex Hex (word ∷ words) None (or_fault (fault_of r) fault)
+hex_shows word words fault (Ok bytes) is shows = shows_later NoHex Hex word words None fault (λ none. none (bytes, hex_is word bytes is)) shows
+hex_shows word words fault (Err kind) is shows =
+    rw (no_hex_fault word kind is) (shows_here NoHex Hex word words None (λ hex. ok_or_err (hex_of word) hex.0 kind (hex_reads word hex.0 hex.1) is))
 
-pub values_find : (words : List (List ℕ)) → Finds NoHex Hex words None (values_fault words)
-values_find [] = finds_none NoHex Hex None
-values_find (word ∷ words) = hex_finds word words (values_fault words) (hex_of word) refl (values_find words)
+pub values_show : (words : List (List ℕ)) → Shows NoHex Hex words None (values_fault words)
+values_show [] = shows_none NoHex Hex None
+values_show (word ∷ words) = hex_shows word words (values_fault words) (hex_of word) refl (values_show words)

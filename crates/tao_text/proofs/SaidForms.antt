@@ -1,18 +1,13 @@
 -- Words of a line form have the fault that is found at its places.
-use Rattle.std.proofs.Common.{◌≡◌, ◌⊎◌, inl, inr, ℕ, ◌<◌, cond, List, [], ◌∷◌, length, Option, Some, None, Result, Ok, Err, refl, sym, ap, subst, ◌∙◌, arith}
-use Rattle.std.specs.Prelude.{All, Any, Contains, codes}
-use Rattle.std.specs.Str.{bytes_eq}
-use Rattle.std.proofs.lemmas.Bool.{cond_both}
+use Rattle.std.proofs.Common.{◌≡◌, ℕ, List, [], ◌∷◌, Option, None, Result, Ok, Err, refl, ◌∙◌}
+use Rattle.std.specs.Prelude.{All, codes}
 use Rattle.std.proofs.lemmas.List.Elements.{All-from_recursion}
-use Rattle.std.proofs.lemmas.Slice.Eq.{bytes_eq-Decides}
 use Rattle.tao_base.specs.declared.calls.Op.{Op}
-use Rattle.tao_base.specs.declared.parameters.Form.{Form}
-use Rattle.tao_base.specs.declared.storage.Entry.{Entry}
 use Rattle.tao_text.specs.declared.faults.TextKind.{TextKind}
 use Rattle.tao_text.specs.declared.faults.TextKind.TheVariants.{Word}
 use Rattle.tao_text.specs.declared.said.Said.{Said}
 use Rattle.tao_text.specs.declared.script.What.{What}
-use Rattle.tao_text.specs.Forms.{◌>>=◌, call_line, form_line, load_line, number_line, numbers_of, pad_words, put_line, read_line, read_words, said_behind, seal_line, step_behind, tape_line, tree_line, value_line, write_words}
+use Rattle.tao_text.specs.Forms.{◌>>=◌, call_line, form_line, load_line, number_line, pad_words, put_line, read_line, read_words, said_behind, seal_line, step_behind, tape_line, tree_line, value_line, write_words}
 use Rattle.tao_text.specs.LineForms.{Part, IsOfForm, line_forms}
 use Rattle.tao_text.specs.LineForms.Part.{Fixed, ANumber, AValue, TheNumbers}
 use Rattle.tao_text.specs.Values.{number_of, hex_of}

@@ -1,5 +1,5 @@
 -- Words are read as what they spell.
-use Rattle.std.proofs.Common.{◌≡◌, ℕ, ◌^◌, ◌<◌, List, [], ◌∷◌, length, map, Option, Some, None, Result, Ok, Err, refl, sym, ap, subst, ◌∙◌, arith, suc}
+use Rattle.std.proofs.Common.{◌≡◌, ℕ, ◌^◌, ◌<◌, List, [], ◌∷◌, length, map, Some, None, Result, Ok, Err, refl, sym, ap, subst, ◌∙◌, arith, suc}
 use Rattle.std.specs.Prelude.{All, codes, decimal}
 use Rattle.std.specs.List.{AllByRecursion}
 use Rattle.std.proofs.lemmas.List.{length-map}
@@ -12,13 +12,13 @@ use Rattle.tao_text.specs.declared.faults.TextKind.{TextKind}
 use Rattle.tao_text.specs.declared.said.Said.{Said}
 use Rattle.tao_text.specs.declared.script.What.{What}
 use Rattle.tao_text.specs.Forms.{◌>>=◌, call_line, form_line, load_line, number_line, numbers_of, pad_words, put_line, read_line, read_words, said_behind, seal_line, step_behind, tape_line, tree_line, value_line, write_words}
-use Rattle.tao_text.specs.Spelling.{IsHex, IsTape, Says, SpellsCall, SpellsLoad, SpellsStep}
+use Rattle.tao_text.specs.Spelling.{IsHex, Says, SpellsCall, SpellsLoad, SpellsStep}
 use Rattle.tao_text.specs.Values.{number_of, hex_of}
 use Rattle.tao_text.proofs.SaidForms.{behind}
 use Rattle.tao_text.proofs.SaidTable.{named}
 use Rattle.tao_text.proofs.ValueLaws.{number_is, number_reads, hex_is, hex_reads}
 
-bind_ok : {A B : Type 0} (r : Result A TextKind) (f : A → Result B TextKind) (y : B) → (r >>= f) ≡ Ok y → (x : A) × (r ≡ Ok x) × (f x ≡ Ok y)
+pub bind_ok : {A B : Type 0} (r : Result A TextKind) (f : A → Result B TextKind) (y : B) → (r >>= f) ≡ Ok y → (x : A) × (r ≡ Ok x) × (f x ≡ Ok y)
 bind_ok (Ok x) f y h = (x, refl, h)
 bind_ok (Err kind) f y h = cc h
 
