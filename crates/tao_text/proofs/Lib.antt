@@ -7,3 +7,9 @@ pub mod HexCase
 pub mod ValueLaws
 pub mod WordLaws
 pub mod PrintLaws
+pub mod SaidFaults
+pub mod SaidForms
+pub mod SaidTable
+pub mod SaidWords
+pub mod SaidKinds
+pub mod SaidLaws
