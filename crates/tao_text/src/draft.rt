@@ -8,7 +8,7 @@ use crate::limits::{entry_fits, params_of, step_fits};
 use crate::said::Said;
 use crate::script::{Script, Step, Steps, What};
 use std::alloc::Global;
-use tao_base::{Block, Entries, Entry, Form, Numbers, NoMemory, Params};
+use tao_base::{Block, Entries, Entry, Form, NoMemory, Numbers, Params};
 
 /// What the lines so far say, from the line `tree` on.
 #[derive(Debug, Drop)]

@@ -65,7 +65,10 @@ fn read_line(
 {
     match take_line(alloc, draft, number, line) {
         Ok(()) => Ok(()),
-        Err(TextKind::Memory) => Err(TextFault { line: 0, kind: TextKind::Memory }),
+        Err(TextKind::Memory) => Err(TextFault {
+            line: 0,
+            kind: TextKind::Memory,
+        }),
         Err(kind) => Err(TextFault { line: number, kind }),
     }
 }

@@ -9,6 +9,7 @@ use Rattle.tao_record.specs.State.{RecordState}
 use Rattle.tao_text.specs.Kinds.{kind_name}
 use Rattle.tao_text.specs.Texts.{FirstBreak, IsScriptText}
 use Rattle.tao_text.specs.declared.faults.TextFault.{TextFault}
+use Rattle.tao_text.specs.declared.faults.TextKind.{TextKind}
 use Rattle.tao_trace.specs.WholeLines.{AreFirstLines}
 use Rattle.tao_text.specs.declared.script.Script.{Script}
 use Rattle.tao_base.specs.Causes.{Rose}
@@ -30,7 +31,7 @@ status_of NoMemory = 8
 
 -- the last line of a script that isn't played: the line at which that shows, and why
 abbrev pub break_line : ℕ → List ℕ → List ℕ
-break_line line name = (codes "end 3 " ++ decimal line) ++ ((codes " " ++ name) ++ 10 ∷ [])
+break_line line name = (codes "end 3 " ++ decimal line) ++ (codes " " ++ (name ++ 10 ∷ []))
 
 -- the last line
 abbrev pub end_line : End → List ℕ
@@ -40,6 +41,19 @@ end_line (Broken fault) = break_line fault.line (kind_name fault.kind)
 end_line (Unbuilt line) = break_line line (codes "Unbuilt")
 end_line SourceFailed = codes "end 4" ++ 10 ∷ []
 end_line NoMemory = codes "end 8" ++ 10 ∷ []
+
+-- the end of a call whose text wasn't read
+abbrev pub end_of : TextKind → TextFault → End
+end_of TextKind.NotText fault = Broken fault
+end_of TextKind.Word fault = Broken fault
+end_of TextKind.Number fault = Broken fault
+end_of TextKind.Hex fault = Broken fault
+end_of TextKind.Length fault = Broken fault
+end_of TextKind.Range fault = Broken fault
+end_of TextKind.Order fault = Broken fault
+end_of TextKind.TapeShort fault = Broken fault
+end_of TextKind.TooLong fault = Broken fault
+end_of TextKind.Memory fault = NoMemory
 
 -- the ends of a call with refused words, each with its text
 abbrev pub RefusedEnds : End → List ℕ → Type 0

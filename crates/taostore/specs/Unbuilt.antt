@@ -1,5 +1,5 @@
 -- Which scripts can't be played yet, and where that shows first.
-use Rattle.std.specs.Prelude.{◌≡◌, ℕ, ◌≤◌, ◌==◌, not, min, Bool, true, false, List, length, slice_get, take_while, unwrap_or, Option, Some, None, All, IsTrue, if◌then◌else◌}
+use Rattle.std.specs.Prelude.{◌≡◌, ℕ, ◌≤◌, ◌==◌, not, min, Bool, true, false, List, length, slice_get, position, unwrap_or, Option, Some, None, All, IsTrue, if◌then◌else◌}
 use Rattle.std.specs.Option.{option_map}
 use Rattle.tao_base.specs.Limits.{session_limit}
 use Rattle.tao_base.specs.declared.calls.Op.{Op}
@@ -28,12 +28,13 @@ is_whole (What.Done fetch) = false
 is_whole (What.Put version bucket) = false
 is_whole (What.Ack version) = false
 
-abbrev pub step_is_whole : Step → Bool
-step_is_whole step = is_whole step.what
+-- how many steps, from the first one on, are whole operations
+abbrev pub whole_steps : List Step → ℕ
+whole_steps steps = unwrap_or (position (λ step. not (is_whole step.what)) steps) (length steps)
 
 -- the first step that is none, or the first one that a session has no room for
 unfoldable pub unbuilt_step : ℕ → List Step → Option ℕ
-unbuilt_step limit steps = option_map (λ step. step.line) (slice_get steps (min limit (length (take_while step_is_whole steps))))
+unbuilt_step limit steps = option_map (λ step. step.line) (slice_get steps (min limit (whole_steps steps)))
 
 -- the line of the period where that isn't 1, of the form where that isn't 1, or else of a step
 unfoldable pub unbuilt_line : Script → Option ℕ

@@ -3,7 +3,7 @@ ghost use Rattle.std.specs.Prelude.{◌≡◌, ◌++◌, OnOk, OnErr};
 ghost use Rattle.taostore.specs.Output.{Finishes, PutsAll, PutsPart};
 ghost use Rattle.taostore.specs.Endings.{break_line, end_line, status_of};
 
-use crate::writing::{put_all, put_both};
+use crate::writing::{put_all, put_five};
 use itoa::Buffer;
 use tao_base::{Failed, Sink};
 use tao_text::TextFault;
@@ -47,10 +47,7 @@ impl End {
 pub fn finish<K: Sink>(sink: &mut K, end: End) -> u8
     ensures { Finishes K.put K.faults sink.old sink.new (status_of end) (end_line end) result }
 {
-    match put_end(sink, end) {
-        Ok(()) => end.status(),
-        Err(_) => SINK_FAILED,
-    }
+    finish_text(sink, &[], end)
 }
 
 /// Writes the text that is left and the end line, and answers the exit status.
@@ -87,14 +84,12 @@ fn put_end<K: Sink>(sink: &mut K, end: End) -> Result<(), Failed>
     }
 }
 
-#[tactic(auto, using(crate::proofs::Telling::puts_then, crate::proofs::Telling::part_of_more, crate::proofs::Telling::part_then))]
 // The end line of a script that isn't played: the number of a line, and a name.
 fn put_break<K: Sink>(sink: &mut K, line: u32, name: &str) -> Result<(), Failed>
     ensures ok { OnOk result (PutsAll K.put K.faults sink.old sink.new (break_line line name.now)) }
     ensures err { OnErr result (PutsPart K.put K.faults sink.old sink.new (break_line line name.now)) }
 {
     let mut digits = Buffer::new();
-    put_both(sink, b"end 3 ", digits.format(line).as_bytes())?;
-    put_both(sink, b" ", name.as_bytes())?;
-    put_all(sink, b"\n")
+    let number = digits.format(line).as_bytes();
+    put_five(sink, b"end 3 ", number, b" ", name.as_bytes(), b"\n")
 }

@@ -4,7 +4,7 @@ ghost use Rattle.tao_base.specs.Causes.{Rose};
 ghost use Rattle.tao_text.specs.Texts.{IsScript};
 ghost use Rattle.tao_text.specs.declared.script.Script.{Script};
 ghost use Rattle.taostore.specs.Output.{PutsMore};
-ghost use Rattle.taostore.specs.Endings.{EndsAs, PlayEnds, ScriptEnds, TakesPlayed, TakesUnplayed, kept_history, end_line};
+ghost use Rattle.taostore.specs.Endings.{EndsAs, PlayEnds, ScriptEnds, TakesPlayed, TakesUnplayed, kept_history, end_line, end_of};
 ghost use Rattle.taostore.specs.Unbuilt.{IsPlayable};
 
 use crate::commands::Kept;
@@ -16,7 +16,7 @@ use crate::transcript::tell_session;
 use crate::unbuilt::unbuilt_line;
 use std::alloc::Global;
 use tao_base::{Sink, Source};
-use tao_text::{Script, TextKind, read_script};
+use tao_text::{Script, TextFault, TextKind, read_script};
 
 /// The bytes of the longest script.
 const MAX_SCRIPT: usize = 1 << 24;
@@ -50,6 +50,7 @@ pub fn play_top<S: Source, K: Sink>(
     }
 }
 
+#[tactic(auto, using(crate::proofs::Breaks::ends_unread))]
 // The script that the source has left.
 fn take_script<S: Source>(alloc: Global, source: &mut S) -> Result<Script, End>
     ensures taken { IfOk result (TakesPlayed S.left S.faults source.old source.new) }
@@ -64,16 +65,21 @@ fn take_script<S: Source>(alloc: Global, source: &mut S) -> Result<Script, End>
     };
     let script = match read_script(alloc, bytes.as_slice()) {
         Ok(script) => script,
-        Err(fault) => {
-            return Err(match fault.kind {
-                TextKind::Memory => End::NoMemory,
-                _ => End::Broken(fault),
-            });
-        }
+        Err(fault) => return Err(end_of(fault)),
     };
     match unbuilt_line(&script) {
         Some(line) => Err(End::Unbuilt(line)),
         None => Ok(script),
+    }
+}
+
+// How a call ends whose text wasn't read.
+fn end_of(fault: TextFault) -> End
+    ensures { result ≡ end_of fault.kind fault }
+{
+    match fault.kind {
+        TextKind::Memory => End::NoMemory,
+        _ => End::Broken(fault),
     }
 }
 

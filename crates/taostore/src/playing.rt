@@ -159,6 +159,7 @@ pub fn play(alloc: Global, script: Script) -> Played
     }
 }
 
+#[tactic(auto, using(crate::proofs::Whole::tape_enough))]
 // A desk for the script, and its steps.
 fn open_script(alloc: Global, script: Script) -> Result<(Desk, Steps), NoMemory>
     requires script { IsScript script }

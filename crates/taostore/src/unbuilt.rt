@@ -1,6 +1,6 @@
 //! What a script may ask for that can't be played yet.
-ghost use Rattle.std.specs.Prelude.{◌≡◌, IfNone};
-ghost use Rattle.taostore.specs.Unbuilt.{IsPlayable, is_one, is_whole, unbuilt_line, unbuilt_step};
+ghost use Rattle.std.specs.Prelude.{◌≡◌, not, position, IfNone};
+ghost use Rattle.taostore.specs.Unbuilt.{IsPlayable, is_one, is_whole, unbuilt_line, unbuilt_step, whole_steps};
 
 use tao_base::{Form, Op};
 use tao_text::{Script, Step, What};
@@ -37,11 +37,23 @@ fn is_one(form: Form) -> bool
 fn unbuilt_step(limit: usize, steps: &[Step]) -> Option<u32>
     ensures { result ≡ unbuilt_step limit steps.now }
 {
-    let whole = steps.iter().take_while(|step| is_whole(&step.what)).count();
-    match steps.get(limit.min(whole)) {
+    match steps.get(limit.min(whole_steps(steps))) {
         Some(step) => Some(step.line),
         None => None,
     }
+}
+
+// How many steps, from the first one on, are whole operations on blocks.
+fn whole_steps(steps: &[Step]) -> usize
+    ensures { result ≡ whole_steps steps.now }
+{
+    first_other(steps).unwrap_or(steps.len())
+}
+
+fn first_other(steps: &[Step]) -> Option<usize>
+    ensures { result ≡ position (λ step. not (is_whole step.what)) steps.now }
+{
+    steps.iter().position(|step| !is_whole(&step.what))
 }
 
 // Whether a step is a whole operation on a block.
