@@ -7,3 +7,9 @@ pub mod HexCase
 pub mod ValueLaws
 pub mod WordLaws
 pub mod PrintLaws
+pub mod SaidLaws
+pub mod TextParts
+pub mod LimitLaws
+pub mod TextDrafts
+pub mod TextStands
+pub mod TextNext
