@@ -13,3 +13,5 @@ pub mod LimitLaws
 pub mod TextDrafts
 pub mod TextStands
 pub mod TextNext
+pub mod TextLines
+pub mod TextLaws
