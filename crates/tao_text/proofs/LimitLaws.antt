@@ -1,12 +1,11 @@
 -- What is within the parameters, and which fault what isn't has.
-use Rattle.std.proofs.Common.{◌≡◌, ◌≢◌, ◌==◌, ◌⊎◌, inl, inr, ℕ, ◌+◌, ◌*◌, ◌%◌, ◌^◌, ◌<◌, ◌≤◌, ◌&&◌, ◌||◌, Bool, true, false, cond, nat_le, nat_lt, List, length, All, Option, Some, None, Result, Ok, Err, refl, sym, ap, subst, ◌∙◌, arith, ltb-false, leb-false}
+use Rattle.std.proofs.Common.{◌≡◌, ◌≢◌, ◌==◌, ◌⊎◌, inl, inr, ℕ, ◌*◌, ◌%◌, ◌^◌, ◌<◌, ◌≤◌, ◌&&◌, ◌||◌, Bool, true, false, cond, nat_le, nat_lt, length, Some, None, Result, Ok, Err, refl, subst, arith, ltb-false, leb-false}
 use Rattle.std.proofs.lemmas.Bool.{and_parts, and_cases, cases_eq, or_parts, eqb-true, eq-eqb, ltb-true, leb-true}
 use Rattle.tao_base.specs.Limits.{Shape, IsShape, in_form, shape, shape_of, tree_len}
 use Rattle.tao_base.specs.Tree.{node_count}
 use Rattle.tao_base.specs.declared.calls.Op.{Op}
 use Rattle.tao_base.specs.declared.parameters.Form.{Form}
 use Rattle.tao_base.specs.declared.parameters.Form.TheVariants.{One}
-use Rattle.tao_base.specs.declared.parameters.ParamFault.{ParamFault}
 use Rattle.tao_base.specs.declared.parameters.ParamFault.TheVariants.{Height, BucketSize, BlockSize, Count, Period, TreeTooLarge}
 use Rattle.tao_base.specs.declared.storage.Entry.{Entry}
 use Rattle.tao_text.specs.declared.faults.TextKind.{TextKind}

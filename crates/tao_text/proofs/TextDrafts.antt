@@ -1,31 +1,19 @@
 -- A draft has what the lines so far say; and the next line is added to it, or has a fault that is answered.
-use Rattle.std.proofs.Common.{◌≡◌, ◌≢◌, ◌==◌, ◌⊎◌, inl, inr, ℕ, zero, suc, ◌+◌, ◌-◌, ◌^◌, ◌<◌, ◌≤◌, ◌&&◌, not, Bool, true, false, cond, nat_lt, List, [], ◌∷◌, ◌++◌, length, map, get_or, replicate, Option, Some, None, is_some, is_none, is_err, IfSome, IsSome, MatchOption, All, count_by, unwrap_or, Result, Ok, Err, refl, sym, ap, ap₂, subst, ◌∙◌, arith, ltb-false, true≢false}
-use Rattle.std.specs.Prelude.{filter_map}
+use Rattle.std.proofs.Common.{◌≡◌, ◌==◌, ℕ, ◌+◌, ◌-◌, ◌<◌, not, Bool, true, false, cond, List, [], ◌∷◌, ◌++◌, length, get_or, Option, Some, None, is_some, is_none, MatchOption, All, Result, Ok, Err, refl, sym, ap, ◌∙◌}
 use Rattle.std.specs.Option.{option_map}
-use Rattle.std.specs.Result.{result_ok}
-use Rattle.std.proofs.lemmas.Bool.{and_parts, and_from, eqb-true, eq-eqb, ltb-true, false≢true}
-use Rattle.std.proofs.lemmas.List.{map-append}
-use Rattle.std.proofs.lemmas.List.Elements.{All-map, All-nil, All-push, All-weaker}
-use Rattle.std.proofs.lemmas.Option.{same_Some}
-use Rattle.tao_base.specs.Limits.{Shape, in_form, shape_of, tree_len}
-use Rattle.tao_base.specs.declared.parameters.Form.{Form}
-use Rattle.tao_base.specs.declared.parameters.ParamFault.{ParamFault}
-use Rattle.tao_base.specs.declared.parameters.ParamFault.TheVariants.{TreeTooLarge}
-use Rattle.tao_base.specs.declared.storage.Entry.{Entry}
+use Rattle.std.proofs.lemmas.Bool.{and_parts, and_from, eqb-true, eq-eqb, false≢true}
+use Rattle.tao_base.specs.Limits.{Shape}
 use Rattle.tao_text.specs.declared.draft.Draft.{Draft}
 use Rattle.tao_text.specs.declared.faults.TextKind.{TextKind}
 use Rattle.tao_text.specs.declared.said.Said.{Said}
 use Rattle.tao_text.specs.declared.script.Script.{Script}
-use Rattle.tao_text.specs.declared.script.Step.{Step}
-use Rattle.tao_text.specs.declared.script.What.{What}
-use Rattle.tao_text.specs.Breaks.{FindsNoWord, IsLengthFault, IsRangeFault, IsShort, Item, MayStand, MayStandBehind, arrivals_said, first_line, first_said, form_of, is_arrival, key_of, load_of, place_of, shape_said, step_of, tape_of, tree_of, with_form}
+use Rattle.tao_text.specs.Breaks.{IsLengthFault, IsRangeFault, IsShort, Item, MayStand, arrivals_said, first_line, form_of, key_of, load_of, step_of, tape_of}
 use Rattle.tao_text.specs.Forms.{◌>>=◌}
-use Rattle.tao_text.specs.Limits.{or_range, params_of, entry_fits, step_fits}
-use Rattle.tao_text.specs.Scripts.{add, add_form, add_key, add_load, add_step, add_tape, empty_draft, is_above, is_arrival as is_counted, may_load, no_form, no_key, no_loads, no_tape, one_less, opening, words_behind}
+use Rattle.tao_text.specs.Scripts.{is_above, no_form, no_key, no_loads, no_tape}
 use Rattle.tao_text.specs.Spelling.{IsTape, Says}
-use Rattle.tao_text.specs.Texts.{IsEntryOf, IsScript, IsStepOf, SaysScript, arrivals_in, step_at}
-use Rattle.tao_text.proofs.LimitLaws.{Fits, entry_judged, entry_within, form_keeps, shape_keeps, step_judged, step_within}
-use Rattle.tao_text.proofs.TextParts.{Lacks, above_all, all_given, count_push, filtered_more, filtered_same, first_lacks, first_new, first_same, given_all, gives_nothing, item_of, lacks_first, last_load, last_pushed, map_none, nothing_given, rising_push}
+use Rattle.tao_text.specs.Texts.{IsScript, SaysScript, arrivals_in, step_at}
+use Rattle.tao_text.proofs.LimitLaws.{Fits}
+use Rattle.tao_text.proofs.TextParts.{Lacks, first_lacks, gives_nothing, item_of, lacks_first, last_load, map_none, nothing_given}
 
 -- the words of a tape that no block and no arrival has
 abbrev pub words_left_of : Script → Option ℕ

@@ -1,12 +1,12 @@
 -- One line more: it is added to the draft, or it has the fault that is answered.
-use Rattle.std.proofs.Common.{◌≡◌, ◌≢◌, ◌==◌, inl, inr, ℕ, zero, suc, ◌+◌, ◌-◌, ◌^◌, ◌<◌, ◌≤◌, not, Bool, true, false, cond, nat_lt, List, [], ◌∷◌, ◌++◌, length, map, replicate, Option, Some, None, is_some, is_none, is_err, IfSome, IsSome, MatchOption, All, count_by, unwrap_or, Result, Ok, Err, refl, sym, ap, ap₂, subst, ◌∙◌, arith, add-zero, ltb-false}
+use Rattle.std.proofs.Common.{◌≡◌, ◌==◌, inl, inr, ℕ, zero, suc, ◌+◌, ◌-◌, ◌^◌, ◌<◌, ◌≤◌, not, Bool, true, false, cond, nat_lt, List, [], ◌∷◌, ◌++◌, length, map, replicate, Option, Some, None, is_some, is_none, is_err, IfSome, IsSome, MatchOption, All, count_by, unwrap_or, Result, Ok, Err, refl, sym, ap, ap₂, subst, ◌∙◌, arith, add-zero, ltb-false}
 use Rattle.std.specs.Prelude.{filter_map}
 use Rattle.std.specs.List.Sorted.{IsStrictlyIncreasing}
 use Rattle.std.specs.Option.{option_map}
 use Rattle.std.specs.Result.{result_ok}
 use Rattle.std.proofs.lemmas.Bool.{and_parts, cases_Bool, eqb-true, eq-eqb, ltb-true, false≢true}
 use Rattle.std.proofs.lemmas.List.{map-append}
-use Rattle.std.proofs.lemmas.List.Elements.{All-map, All-nil, All-push, All-weaker}
+use Rattle.std.proofs.lemmas.List.Elements.{All-map, All-nil, All-push}
 use Rattle.std.proofs.lemmas.Option.{same_Some}
 use Rattle.tao_base.specs.Limits.{Shape, in_form, shape_of, tree_len}
 use Rattle.tao_base.specs.declared.parameters.Form.{Form}
@@ -16,7 +16,6 @@ use Rattle.tao_base.specs.declared.storage.Entry.{Entry}
 use Rattle.tao_text.specs.declared.draft.Draft.{Draft}
 use Rattle.tao_text.specs.declared.faults.TextKind.{TextKind}
 use Rattle.tao_text.specs.declared.said.Said.{Said}
-use Rattle.tao_text.specs.declared.script.Script.{Script}
 use Rattle.tao_text.specs.declared.script.Step.{Step}
 use Rattle.tao_text.specs.declared.script.What.{What}
 use Rattle.tao_text.specs.Breaks.{FindsNoWord, IsRangeFault, Item, MayStand, arrivals_said, first_line, first_said, form_of, is_arrival, key_of, load_of, shape_said, step_of, tape_of, tree_of, with_form}
@@ -24,9 +23,9 @@ use Rattle.tao_text.specs.Forms.{◌>>=◌}
 use Rattle.tao_text.specs.Limits.{or_range, params_of, entry_fits, step_fits}
 use Rattle.tao_text.specs.Scripts.{add, add_form, add_key, add_load, add_step, add_tape, empty_draft, is_above, is_arrival as is_counted, may_load, no_form, no_key, no_loads, no_tape, one_less, opening, words_behind}
 use Rattle.tao_text.specs.Spelling.{IsTape}
-use Rattle.tao_text.specs.Texts.{IsEntryOf, IsScript, IsStepOf, SaysScript, arrivals_in, step_at}
+use Rattle.tao_text.specs.Texts.{IsEntryOf, IsStepOf, arrivals_in, step_at}
 use Rattle.tao_text.proofs.LimitLaws.{entry_judged, entry_within, form_keeps, shape_keeps, step_judged, step_within}
-use Rattle.tao_text.proofs.TextDrafts.{CanSay, IsDraftOf, IsFine, LengthFault, ShortFault, Verdict, fitted, lacks_form, lacks_key, lacks_tape, tested, words_left_of}
+use Rattle.tao_text.proofs.TextDrafts.{CanSay, IsDraftOf, LengthFault, Verdict, fitted, lacks_form, lacks_key, lacks_tape, tested, words_left_of}
 use Rattle.tao_text.proofs.TextParts.{count_push, filtered_more, filtered_same, first_lacks, first_new, first_same, item_of, last_load, last_pushed, map_none, rising_push}
 use Rattle.tao_text.proofs.TextStands.{form_follows, form_stands, key_follows, key_stands, load_follows, load_stands, tape_follows, tape_stands}
 
@@ -376,64 +375,67 @@ finds_arrival s items (What.Put version bucket) none = absurd none
 finds_arrival s items (What.Ack version) none = absurd none
 
 module _ (items : List Item) (d : Draft) (number : ℕ) (is : IsDraftOf items d) (what : What) (within : IsStepOf d.script.params what)
-  (long : ¬ LengthFault (Some d.script.params) (Said.Step what)) (known : ¬ IsRangeFault (Some d.script.params) (Said.Step what))
+    (long : ¬ LengthFault (Some d.script.params) (Said.Step what)) (known : ¬ IsRangeFault (Some d.script.params) (Said.Step what))
   where
-  abbrev with_step : Option ℕ → Draft
-  with_step left = record d { script = record d.script { steps = d.script.steps ++ record { line = number; what = what } ∷ [] }; words_left = left }
+    abbrev with_step : Option ℕ → Draft
+    with_step left = record d { script = record d.script { steps = d.script.steps ++ record { line = number; what = what } ∷ [] }; words_left = left }
 
-  abbrev used_before : ℕ
-  used_before = d.script.params.n + arrivals_in d.script.steps
+    abbrev used_before : ℕ
+    used_before = d.script.params.n + arrivals_in d.script.steps
 
-  stands : MayStand items (Said.Step what)
-  stands = (some_so_far items d number is, λ k e lt. tt)
+    stands : MayStand items (Said.Step what)
+    stands = (some_so_far items d number is, λ k e lt. tt)
 
-  leaves_none : MatchOption d.script.tape ⊥ (λ tape. length tape ≤ used_before) → LeavesNone d.script.params items
-  leaves_none h = rw is.arrivals (subst (λ (tape : Option (List ℕ)). MatchOption tape ⊥ (λ tape. length tape ≤ used_before)) is.says.tape h)
+    leaves_none : MatchOption d.script.tape ⊥ (λ tape. length tape ≤ used_before) → LeavesNone d.script.params items
+    leaves_none h = rw is.arrivals (subst (λ (tape : Option (List ℕ)). MatchOption tape ⊥ (λ tape. length tape ≤ used_before)) is.says.tape h)
 
-  none_leaves : LeavesNone d.script.params items → MatchOption d.script.tape ⊥ (λ tape. length tape ≤ used_before)
-  none_leaves h = subst (λ (tape : Option (List ℕ)). MatchOption tape ⊥ (λ tape. length tape ≤ used_before)) (sym is.says.tape) (rw is.arrivals at h)
+    none_leaves : LeavesNone d.script.params items → MatchOption d.script.tape ⊥ (λ tape. length tape ≤ used_before)
+    none_leaves h = subst (λ (tape : Option (List ℕ)). MatchOption tape ⊥ (λ tape. length tape ≤ used_before)) (sym is.says.tape) (rw is.arrivals at h)
 
-  used_now : (more : ℕ) → cond (is_arrival what) 1 0 ≡ more → d.script.params.n + arrivals_in (d.script.steps ++ record { line = number; what = what } ∷ []) ≡ used_before + more
-  used_now more h =
-      let one : arrivals_in (d.script.steps ++ record { line = number; what = what } ∷ []) ≡ arrivals_in d.script.steps + more
-      = count_push (λ (step : Step). is_arrival step.what) d.script.steps (record { line = number; what = what }) ∙ ap (λ (n : ℕ). arrivals_in d.script.steps + n) h in
-      omega arith
+    used_now : (more : ℕ) → cond (is_arrival what) 1 0 ≡ more → d.script.params.n + arrivals_in (d.script.steps ++ record { line = number; what = what } ∷ []) ≡ used_before + more
+    used_now more h =
+        let one : arrivals_in (d.script.steps ++ record { line = number; what = what } ∷ []) ≡ arrivals_in d.script.steps + more
+        = count_push (λ (step : Step). is_arrival step.what) d.script.steps (record { line = number; what = what }) ∙ ap (λ (n : ℕ). arrivals_in d.script.steps + n) h in
+        omega arith
 
-  with_words : (left : Option ℕ) (more : ℕ) → cond (is_arrival what) 1 0 ≡ more → left ≡ option_map (λ tape. length tape - (used_before + more)) d.script.tape → IfSome d.script.tape (λ tape. IsTape tape × (used_before + more ≤ length tape))
-      → IsDraftOf (items ++ item_of number (Said.Step what) ∷ []) (with_step left)
-  with_words left more h words room =
-      let used = used_now more h in
-      step_draft items d number is what left within
-      (subst (λ (n : ℕ). left ≡ option_map (λ tape. length tape - n) d.script.tape) (sym used) words)
-      (subst (λ (n : ℕ). IfSome d.script.tape (λ tape. IsTape tape × (n ≤ length tape))) (sym used) room)
+    with_words : (left : Option ℕ) (more : ℕ) → cond (is_arrival what) 1 0 ≡ more → left ≡ option_map (λ tape. length tape - (used_before + more)) d.script.tape → IfSome d.script.tape (λ tape. IsTape tape × (used_before + more ≤ length tape))
+        → IsDraftOf (items ++ item_of number (Said.Step what) ∷ []) (with_step left)
+    with_words left more h words room =
+        let used = used_now more h in
+        step_draft items d number is what left within
+        (subst (λ (n : ℕ). left ≡ option_map (λ tape. length tape - n) d.script.tape) (sym used) words)
+        (subst (λ (n : ℕ). IfSome d.script.tape (λ tape. IsTape tape × (n ≤ length tape))) (sym used) room)
 
-  arrived : is_arrival what ≡ true → (left : Option ℕ) → left ≡ words_left_of d.script → Verdict (Some d.script.params) items number (Said.Step what) (one_less left >>= λ left. Ok (with_step left))
-  arrived h None words =
-      let none = no_words used_before d.script.tape words in
-      let one : cond (is_arrival what) 1 0 ≡ 1 = ap (λ (b : Bool). cond b 1 0) h in
-      (with_words None 1 one (sym (ap (option_map (λ tape. length tape - (used_before + 1))) none)) (no_room_needed d.script.tape (λ tape. IsTape tape × (used_before + 1 ≤ length tape)) none),
-      record { long = long; range = known; stands = stands; enough = λ finds. no_tape_is_short d.script.tape (λ tape. length tape ≤ used_before) none (none_leaves (finds_arrival d.script.params items what finds)) })
-  arrived h (Some zero) words = (long, known, stands, arrival_finds d.script.params items what h (leaves_none (used_up d.script.tape used_before words)))
-  arrived h (Some (suc left)) words =
-      let one : cond (is_arrival what) 1 0 ≡ 1 = ap (λ (b : Bool). cond b 1 0) h in
-      (with_words (Some left) 1 one (one_word_less d.script.tape used_before left words) (still_room d.script.tape used_before left words is.limits.tape),
-      record { long = long; range = known; stands = stands; enough = λ finds. not_used_up d.script.tape used_before left words (none_leaves (finds_arrival d.script.params items what finds)) })
+    arrived : is_arrival what ≡ true → (left : Option ℕ) → left ≡ words_left_of d.script → Verdict (Some d.script.params) items number (Said.Step what) (one_less left >>= λ left. Ok (with_step left))
+    arrived h None words =
+        let none = no_words used_before d.script.tape words in
+        let one : cond (is_arrival what) 1 0 ≡ 1 = ap (λ (b : Bool). cond b 1 0) h in (
+          with_words None 1 one (sym (ap (option_map (λ tape. length tape - (used_before + 1))) none)) (no_room_needed d.script.tape (λ tape. IsTape tape × (used_before + 1 ≤ length tape)) none),
+          record { long = long; range = known; stands = stands; enough = λ finds. no_tape_is_short d.script.tape (λ tape. length tape ≤ used_before) none (none_leaves (finds_arrival d.script.params items what finds)) },
+        )
+    arrived h (Some zero) words = (long, known, stands, arrival_finds d.script.params items what h (leaves_none (used_up d.script.tape used_before words)))
+    arrived h (Some (suc left)) words =
+        let one : cond (is_arrival what) 1 0 ≡ 1 = ap (λ (b : Bool). cond b 1 0) h in (
+          with_words (Some left) 1 one (one_word_less d.script.tape used_before left words) (still_room d.script.tape used_before left words is.limits.tape),
+          record { long = long; range = known; stands = stands; enough = λ finds. not_used_up d.script.tape used_before left words (none_leaves (finds_arrival d.script.params items what finds)) },
+        )
 
-  not_arrived : is_arrival what ≡ false → Verdict (Some d.script.params) items number (Said.Step what) (Ok (with_step d.words_left))
-  not_arrived h =
-      let none : cond (is_arrival what) 1 0 ≡ 0 = ap (λ (b : Bool). cond b 1 0) h in
-      let same : used_before ≡ used_before + 0 = sym (add-zero used_before) in
-      (with_words d.words_left 0 none
-        (subst (λ (n : ℕ). d.words_left ≡ option_map (λ tape. length tape - n) d.script.tape) same is.words_left)
-        (subst (λ (n : ℕ). IfSome d.script.tape (λ tape. IsTape tape × (n ≤ length tape))) same is.limits.tape),
-      record { long = long; range = known; stands = stands; enough = no_other_finds d.script.params items what h })
+    not_arrived : is_arrival what ≡ false → Verdict (Some d.script.params) items number (Said.Step what) (Ok (with_step d.words_left))
+    not_arrived h =
+        let none : cond (is_arrival what) 1 0 ≡ 0 = ap (λ (b : Bool). cond b 1 0) h in
+        let same : used_before ≡ used_before + 0 = sym (add-zero used_before) in (
+          with_words d.words_left 0 none
+              (subst (λ (n : ℕ). d.words_left ≡ option_map (λ tape. length tape - n) d.script.tape) same is.words_left)
+              (subst (λ (n : ℕ). IfSome d.script.tape (λ tape. IsTape tape × (n ≤ length tape))) same is.limits.tape),
+          record { long = long; range = known; stands = stands; enough = no_other_finds d.script.params items what h },
+        )
 
-  stepped : Verdict (Some d.script.params) items number (Said.Step what) (words_behind what d.words_left >>= λ left. Ok (with_step left))
-  stepped =
-      elim (cases_Bool (is_arrival what)) [
-        | inl arrives ↦ rw (same_arrival what, arrives) (arrived arrives d.words_left is.words_left)
-        | inr other ↦ rw (same_arrival what, other) (not_arrived other)
-      ]
+    stepped : Verdict (Some d.script.params) items number (Said.Step what) (words_behind what d.words_left >>= λ left. Ok (with_step left))
+    stepped =
+        elim (cases_Bool (is_arrival what)) [
+          | inl arrives ↦ rw (same_arrival what, arrives) (arrived arrives d.words_left is.words_left)
+          | inr other ↦ rw (same_arrival what, other) (not_arrived other)
+        ]
 
 -- a line behind the line `tree`
 
@@ -467,10 +469,10 @@ module _ (items : List Item) (d : Draft) (number : ℕ) (is : IsDraftOf items d)
       (λ s. cond (no_form d) (Ok (record d { script = record d.script { params = s; form_line = Some number } })) (Err TextKind.Order))
       (λ large. (λ none. none, ltb-true (2 ^ 29) (tree_len (in_form s form)) large))
       (λ small.
-        let fits = not_past (2 ^ 29) (tree_len (in_form s form)) (ltb-false (2 ^ 29) (tree_len (in_form s form)) small) in
-        tested (Some s) items number (Said.Form form) (no_form d) (Ok (record d { script = record d.script { params = in_form s form; form_line = Some number } })) (Err TextKind.Order)
-        (λ may. (form_draft items d number is form may (form_steps may) small, record { long = λ none. none; range = fits; stands = (some_shape_said, form_stands items d is may); enough = λ none. none }))
-        (λ may_not. (λ none. none, fits, λ stands. false≢true (sym may_not ∙ form_follows items d is stands.1))))
+      let fits = not_past (2 ^ 29) (tree_len (in_form s form)) (ltb-false (2 ^ 29) (tree_len (in_form s form)) small) in
+      tested (Some s) items number (Said.Form form) (no_form d) (Ok (record d { script = record d.script { params = in_form s form; form_line = Some number } })) (Err TextKind.Order)
+      (λ may. (form_draft items d number is form may (form_steps may) small, record { long = λ none. none; range = fits; stands = (some_shape_said, form_stands items d is may); enough = λ none. none }))
+      (λ may_not. (λ none. none, fits, λ stands. false≢true (sym may_not ∙ form_follows items d is stands.1))))
 
   added_key : (bytes : List ℕ) → Verdict (Some d.script.params) items number (Said.Key bytes) (add_key d bytes)
   unfolding add_key
@@ -478,10 +480,10 @@ module _ (items : List Item) (d : Draft) (number : ℕ) (is : IsDraftOf items d)
       let s = d.script.params in
       tested (Some s) items number (Said.Key bytes) (length bytes == 32) (cond (no_key d) (Ok (record d { script = record d.script { key = bytes }; has_key = true })) (Err TextKind.Order)) (Err TextKind.Length)
       (λ same.
-        let long : length bytes ≡ 32 = eqb-true (length bytes) 32 same in
-        tested (Some s) items number (Said.Key bytes) (no_key d) (Ok (record d { script = record d.script { key = bytes }; has_key = true })) (Err TextKind.Order)
-        (λ may. (key_draft items d number is bytes may long, record { long = λ other. other long; range = λ none. none; stands = (some_shape_said, key_stands items d is may); enough = λ none. none }))
-        (λ may_not. (λ other. other long, λ none. none, λ stands. false≢true (sym may_not ∙ key_follows items d is stands.1))))
+      let long : length bytes ≡ 32 = eqb-true (length bytes) 32 same in
+      tested (Some s) items number (Said.Key bytes) (no_key d) (Ok (record d { script = record d.script { key = bytes }; has_key = true })) (Err TextKind.Order)
+      (λ may. (key_draft items d number is bytes may long, record { long = λ other. other long; range = λ none. none; stands = (some_shape_said, key_stands items d is may); enough = λ none. none }))
+      (λ may_not. (λ other. other long, λ none. none, λ stands. false≢true (sym may_not ∙ key_follows items d is stands.1))))
       (λ other same. false≢true (sym other ∙ eq-eqb (length bytes) 32 same))
 
   added_tape : (tape : List ℕ) → IsTape tape → Verdict (Some d.script.params) items number (Said.Tape tape) (add_tape d tape)
@@ -491,10 +493,10 @@ module _ (items : List Item) (d : Draft) (number : ℕ) (is : IsDraftOf items d)
       tested (Some s) items number (Said.Tape tape) (no_tape d)
       (cond (nat_lt (length tape) s.n) (Err TextKind.TapeShort) (Ok (record d { script = record d.script { tape = Some tape }; words_left = Some (length tape - s.n) }))) (Err TextKind.Order)
       (λ may. tested (Some s) items number (Said.Tape tape) (nat_lt (length tape) s.n) (Err TextKind.TapeShort) (Ok (record d { script = record d.script { tape = Some tape }; words_left = Some (length tape - s.n) }))
-        (λ short. (λ none. none, λ none. none, (some_shape_said, tape_stands items d is may), ltb-true (length tape) s.n short))
-        (λ enough.
-          let long : s.n ≤ length tape = ltb-false (length tape) s.n enough in
-          (tape_draft items d number is tape words may (tape_steps may) long, record { long = λ none. none; range = λ none. none; stands = (some_shape_said, tape_stands items d is may); enough = λ short. omega arith })))
+      (λ short. (λ none. none, λ none. none, (some_shape_said, tape_stands items d is may), ltb-true (length tape) s.n short))
+      (λ enough.
+      let long : s.n ≤ length tape = ltb-false (length tape) s.n enough in
+      (tape_draft items d number is tape words may (tape_steps may) long, record { long = λ none. none; range = λ none. none; stands = (some_shape_said, tape_stands items d is may); enough = λ short. omega arith })))
       (λ may_not. (λ none. none, λ none. none, λ stands. false≢true (sym may_not ∙ tape_follows items d is stands.1)))
 
   added_load : (entry : Entry) → Verdict (Some d.script.params) items number (Said.Load entry) (add_load d entry)
@@ -505,8 +507,8 @@ module _ (items : List Item) (d : Draft) (number : ℕ) (is : IsDraftOf items d)
       (λ fits. cond (may_load d entry.id) (Ok (record d { script = record d.script { loads = d.script.loads ++ entry ∷ [] } })) (Err TextKind.Order))
       (entry_judged s entry)
       (λ long known. tested (Some s) items number (Said.Load entry) (may_load d entry.id) (Ok (record d { script = record d.script { loads = d.script.loads ++ entry ∷ [] } })) (Err TextKind.Order)
-        (λ may. (load_draft items d number is entry may (entry_within s entry long known), record { long = long; range = known; stands = (some_shape_said, load_stands items d is entry may); enough = λ none. none }))
-        (λ may_not. (long, known, λ stands. false≢true (sym may_not ∙ load_follows items d is entry stands.1))))
+      (λ may. (load_draft items d number is entry may (entry_within s entry long known), record { long = long; range = known; stands = (some_shape_said, load_stands items d is entry may); enough = λ none. none }))
+      (λ may_not. (long, known, λ stands. false≢true (sym may_not ∙ load_follows items d is entry stands.1))))
 
   added_step : (what : What) → Verdict (Some d.script.params) items number (Said.Step what) (add_step d number what)
   unfolding add_step

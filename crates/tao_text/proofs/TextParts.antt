@@ -1,12 +1,12 @@
 -- The parts of what was said, and one item more.
-use Rattle.std.proofs.Common.{◌≡◌, ◌==◌, inl, inr, ℕ, suc, ◌+◌, ◌-◌, ◌<◌, ◌≤◌, ◌&&◌, not, Bool, true, false, cond, nat_lt, List, [], ◌∷◌, ◌++◌, length, map, slice_get, slice_index, get_or, Option, Some, None, is_some, is_none, IfSome, All, count_by, refl, sym, ap, subst, ◌∙◌, arith, append-nil, length-append, fold}
+use Rattle.std.proofs.Common.{◌≡◌, inl, inr, ℕ, ◌+◌, ◌-◌, ◌<◌, Bool, true, cond, List, [], ◌∷◌, ◌++◌, length, slice_get, get_or, Option, Some, None, IfSome, All, count_by, refl, ap, ◌∙◌, arith, append-nil, length-append}
 use Rattle.std.specs.Prelude.{filter_map}
 use Rattle.std.specs.List.{cons_option}
 use Rattle.std.specs.Option.{option_map}
 use Rattle.std.specs.List.Sorted.{IsStrictlyIncreasing}
-use Rattle.std.proofs.lemmas.Bool.{cases_lt, lt-ltb, ltb-true}
+use Rattle.std.proofs.lemmas.Bool.{cases_lt, lt-ltb}
 use Rattle.std.proofs.lemmas.List.{get_or-append-add, get_or_append_left, get_or_push}
-use Rattle.std.proofs.lemmas.List.Elements.{All-cons, All-head, All-nil, All-push, All-tail, All-weaker, filter_map-append}
+use Rattle.std.proofs.lemmas.List.Elements.{All-cons, All-head, All-nil, All-tail, All-weaker, filter_map-append}
 use Rattle.std.proofs.lemmas.List.Sums.{sum_by_push}
 use Rattle.std.proofs.lemmas.Option.{slice_get-get_or}
 use Rattle.tao_base.specs.declared.storage.Entry.{Entry}
@@ -26,10 +26,6 @@ module _ {X Y : Type 0} (h : X → Option Y) (xs : List X) (x : X) where
 
   pub filtered_more : (y : Y) → h x ≡ Some y → filter_map h (xs ++ x ∷ []) ≡ filter_map h xs ++ y ∷ []
   filtered_more y some = filter_map-append h xs (x ∷ []) ∙ rw some refl
-
-first_stays : {Y : Type 0} (ys zs : List Y) (y : Y) → slice_get ys 0 ≡ Some y → slice_get (ys ++ zs) 0 ≡ Some y
-first_stays [] zs y h = cc h
-first_stays (x ∷ ys) zs y h = h
 
 first_comes : {Y : Type 0} (ys : List Y) (y : Y) → slice_get ys 0 ≡ None → slice_get (ys ++ y ∷ []) 0 ≡ Some y
 first_comes [] y h = refl

@@ -1,30 +1,18 @@
 -- A line may stand where the draft's tests let it, and only there.
-use Rattle.std.proofs.Common.{◌≡◌, ◌==◌, ℕ, ◌-◌, ◌<◌, ◌≤◌, ◌&&◌, true, false, List, length, get_or, Option, Some, None, IfSome, IsSome, MatchOption, All, refl, sym, ap, subst, ◌∙◌, arith}
-use Rattle.std.specs.Prelude.{filter_map}
+use Rattle.std.proofs.Common.{◌≡◌, ◌==◌, ℕ, ◌<◌, ◌≤◌, true, List, length, get_or, Option, Some, None, IfSome, MatchOption, All, refl, sym, subst, arith}
 use Rattle.std.proofs.lemmas.Bool.{and_parts, and_from, eqb-true, eq-eqb}
-use Rattle.tao_base.specs.declared.parameters.Form.{Form}
 use Rattle.tao_base.specs.declared.storage.Entry.{Entry}
 use Rattle.tao_text.specs.declared.draft.Draft.{Draft}
 use Rattle.tao_text.specs.declared.said.Said.{Said}
-use Rattle.tao_text.specs.declared.script.What.{What}
-use Rattle.tao_text.specs.Breaks.{Item, MayStand, MayStandBehind, form_of, key_of, load_of, place_of, shape_said, step_of, tape_of}
+use Rattle.tao_text.specs.Breaks.{Item, MayStandBehind, form_of, key_of, load_of, place_of, step_of, tape_of}
 use Rattle.tao_text.specs.Scripts.{is_above, may_load, no_form, no_key, no_loads, no_tape}
 use Rattle.tao_text.proofs.TextDrafts.{IsDraftOf, form_lacks, key_lacks, lacks_form, lacks_key, lacks_loads, lacks_steps, lacks_tape, loads_lack, no_steps, tape_lacks}
-use Rattle.tao_text.proofs.TextParts.{Lacks, above_all, all_given, given_all, last_load}
+use Rattle.tao_text.proofs.TextParts.{above_all, all_given, given_all, last_load}
 
 -- what says nothing of a place and of those behind it stands before it
 
 no_such : {A : Type 0} (x : A) → ◌≡◌ {A = Option A} (Some x) None → ⊥
 no_such x h = cc h
-
-before_steps : (said : Said) → step_of said ≡ None → place_of said < 5
-before_steps (Said.Step what) step = absurd (no_such what step)
-before_steps said step = omega arith
-
-before_loads : (said : Said) → load_of said ≡ None → step_of said ≡ None → place_of said < 4
-before_loads (Said.Load entry) load step = absurd (no_such entry load)
-before_loads (Said.Step what) load step = absurd (no_such what step)
-before_loads said load step = omega arith
 
 before_tape : (said : Said) → tape_of said ≡ None → load_of said ≡ None → step_of said ≡ None → place_of said < 3
 before_tape (Said.Tape tape) none load step = absurd (no_such tape none)
