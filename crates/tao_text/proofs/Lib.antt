@@ -13,3 +13,11 @@ pub mod SaidTable
 pub mod SaidWords
 pub mod SaidKinds
 pub mod SaidLaws
+pub mod TextParts
+pub mod LimitLaws
+pub mod TextDrafts
+pub mod TextStands
+pub mod TextNext
+pub mod TextLines
+pub mod TextLaws
+pub mod Answered

@@ -3,7 +3,7 @@ use Rattle.std.proofs.Common.{◌≡◌, ◌⊎◌, inl, inr, ⊎_elim, ℕ, ◌
 use Rattle.std.proofs.lemmas.Bool.{and_cases, and_parts, cases_Bool, cases_eq, eq-eqb, leb-false, leb-true, ne_eqb}
 use Rattle.std.proofs.lemmas.List.Sums.{AllPass-from_list_all}
 use Rattle.tao_text.specs.declared.faults.TextKind.{TextKind}
-use Rattle.tao_text.specs.declared.faults.TextKind.TheVariants.{NotText, Word, Number, Hex}
+use Rattle.tao_text.specs.declared.faults.TextKind.TheVariants.{NotText}
 use Rattle.tao_text.specs.declared.said.Said.{Said}
 use Rattle.tao_text.specs.Breaks.{HasFault, IsFirstFault, IsNoText, IsSkipped, Item}
 use Rattle.tao_text.specs.Forms.{◌>>=◌, is_text, line_said, words_said}

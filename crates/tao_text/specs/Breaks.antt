@@ -1,5 +1,5 @@
 -- The faults of a line, kind by kind. Where a line has several, the kind of smallest number counts.
-use Rattle.std.specs.Prelude.{◌≡◌, ◌≢◌, ◌⊎◌, ℕ, ◌+◌, ◌^◌, ◌<◌, ◌≤◌, Bool, true, false, List, [], ◌∷◌, length, slice_index, slice_get, filter_map, count_by, Option, Some, None, IsSome, IsErr, MatchOption, All, Any, Contains, ⊤}
+use Rattle.std.specs.Prelude.{◌≡◌, ◌≢◌, ◌⊎◌, ℕ, ◌+◌, ◌^◌, ◌<◌, ◌≤◌, Bool, true, false, List, [], ◌∷◌, length, slice_index, slice_get, filter_map, count_by, Option, Some, None, IsSome, IsErr, MatchOption, All, Any, ⊤}
 use Rattle.std.specs.Option.{option_map}
 use Rattle.std.specs.Result.{result_ok}
 use Rattle.tao_base.specs.Limits.{Shape, in_form, shape_of, tree_len}
@@ -9,10 +9,9 @@ use Rattle.tao_base.specs.declared.parameters.Form.{Form}
 use Rattle.tao_base.specs.declared.storage.Entry.{Entry}
 use Rattle.tao_text.specs.declared.faults.TextKind.{TextKind}
 use Rattle.tao_text.specs.declared.said.Said.{Said}
-use Rattle.tao_text.specs.declared.script.Step.{Step}
 use Rattle.tao_text.specs.declared.script.What.{What}
 use Rattle.tao_text.specs.Kinds.{kind_number}
-use Rattle.tao_text.specs.LineForms.{Part, line_forms, IsOfForm, numbers_in, values_in}
+use Rattle.tao_text.specs.LineForms.{line_forms, IsOfForm, numbers_in, values_in}
 use Rattle.tao_text.specs.Spelling.{IsNumber, IsHex, Says}
 use Rattle.tao_text.specs.Words.{words}
 

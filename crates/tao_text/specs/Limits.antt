@@ -1,6 +1,6 @@
 -- What is within the parameters: values as long as a block, and ids, clients, depths and nodes in range.
-use Rattle.std.specs.Prelude.{ℕ, ◌==◌, ◌&&◌, nat_le, nat_lt, List, length, Result, Ok, Err, Some, None, if◌then◌else◌}
-use Rattle.tao_base.specs.Limits.{Shape, in_form_or_fault, shape_of}
+use Rattle.std.specs.Prelude.{ℕ, ◌==◌, ◌&&◌, nat_le, nat_lt, length, Result, Ok, Err, Some, None, if◌then◌else◌}
+use Rattle.tao_base.specs.Limits.{Shape, shape_of}
 use Rattle.tao_base.specs.Tree.{node_count}
 use Rattle.tao_base.specs.declared.calls.Op.{Op}
 use Rattle.tao_base.specs.declared.parameters.ParamFault.{ParamFault}

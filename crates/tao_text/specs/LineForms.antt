@@ -1,5 +1,5 @@
 -- The forms that a line can have, by its words.
-use Rattle.std.specs.Prelude.{◌≡◌, ℕ, ◌<◌, List, [], ◌∷◌, length, codes, ⊤}
+use Rattle.std.specs.Prelude.{◌≡◌, ℕ, List, [], ◌∷◌, codes, ⊤}
 
 -- a place of a line form
 pub data Part : Type 0 where

@@ -9,8 +9,8 @@ use Rattle.tao_text.specs.declared.faults.TextKind.{TextKind}
 use Rattle.tao_text.specs.declared.faults.TextKind.TheVariants.{Length, Order, TapeShort, TooLong, Memory}
 use Rattle.tao_text.specs.declared.said.Said.{Said}
 use Rattle.tao_text.specs.declared.script.Script.{Script}
-use Rattle.tao_text.specs.declared.script.Step.{Step}
 use Rattle.tao_text.specs.declared.script.What.{What}
+use Rattle.tao_text.specs.Breaks.{is_arrival}
 use Rattle.tao_text.specs.Forms.{◌>>=◌, line_said}
 use Rattle.tao_text.specs.Limits.{or_range, params_of, entry_fits, step_fits}
 use Rattle.tao_text.specs.Words.{lines}
@@ -76,14 +76,6 @@ unfoldable pub add_load : Draft → Entry → Result Draft TextKind
 add_load d entry = do
   fits ← entry_fits d.script.params entry
   if may_load d entry.id then Ok (record d { script = record d.script { loads = d.script.loads ++ entry ∷ [] } }) else Err Order
-
-abbrev pub is_arrival : What → Bool
-is_arrival (What.Do client op) = true
-is_arrival (What.A client op) = true
-is_arrival (What.Read fetch depth) = false
-is_arrival (What.Done fetch) = false
-is_arrival (What.Put version bucket) = false
-is_arrival (What.Ack version) = false
 
 -- what an arrival leaves of the words, where the tape is a list
 abbrev pub one_less : Option ℕ → Result (Option ℕ) TextKind

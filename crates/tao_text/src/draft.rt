@@ -1,6 +1,7 @@
 //! The script that grows line by line.
 ghost use Rattle.std.specs.Prelude.{◌≡◌, ◌-◌, length, slice_get, IfOk};
-ghost use Rattle.tao_text.specs.Scripts.{add, add_form, add_key, add_load, add_step, add_tape, empty_script, is_above, is_arrival, no_key, no_loads, no_tape, one_less, opening};
+ghost use Rattle.tao_text.specs.Breaks.{is_arrival};
+ghost use Rattle.tao_text.specs.Scripts.{add, add_form, add_key, add_load, add_step, add_tape, empty_script, is_above, no_key, no_loads, no_tape, one_less, opening};
 ghost use Rattle.tao_text.specs.Values.{Gives};
 
 use crate::faults::TextKind;

@@ -15,7 +15,7 @@ use std::alloc::Global;
 // the greatest number of bytes of a text
 const MOST_BYTES: usize = 1 << 24;
 
-#[tactic(auto, unfolding(crate::specs::Scripts::reading))]
+#[tactic(auto, using(crate::proofs::Answered::is_text, crate::proofs::Answered::keeps_limits, crate::proofs::Answered::is_break), unfolding(crate::specs::Scripts::reading))]
 /// The script that the bytes are, or their first break: the first line with a fault, counted from 1, and of its faults the kind of smallest
 /// number. A text of more than 2^24 bytes has the fault TooLong, and want of memory the fault Memory, both with line 0.
 pub fn read_script(alloc: Global, bytes: &[u8]) -> Result<Script, TextFault>

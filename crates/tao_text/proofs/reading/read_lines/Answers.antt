@@ -1,4 +1,4 @@
-use Rattle.std.proofs.Common.{inr, length, None, ap, ◌∙◌}
+use Rattle.std.proofs.Common.{inr, None, ap, ◌∙◌}
 use Rattle.std.proofs.lemmas.Result.{err_from_is_err_and}
 use Rattle.tao_text.specs.Scripts.{ended, lines_with}
 use Rattle.tao_text.specs.Words.{lines}
