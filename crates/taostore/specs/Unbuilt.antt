@@ -1,5 +1,5 @@
 -- Which scripts can't be played yet, and where that shows first.
-use Rattle.std.specs.Prelude.{◌≡◌, ℕ, ◌≤◌, ◌==◌, not, min, Bool, true, false, List, length, slice_get, position, unwrap_or, Option, Some, None, All, IsTrue, if◌then◌else◌}
+use Rattle.std.specs.Prelude.{◌≡◌, ℕ, ◌≤◌, ◌==◌, not, min, Bool, true, false, List, length, slice_get, position, unwrap_or, Option, Some, All, IsTrue, if◌then◌else◌}
 use Rattle.std.specs.Option.{option_map}
 use Rattle.tao_base.specs.Limits.{session_limit}
 use Rattle.tao_base.specs.declared.calls.Op.{Op}

@@ -1,4 +1,4 @@
-use Rattle.std.proofs.Common.{◌≡◌, ◌≤◌, map}
+use Rattle.std.proofs.Common.{◌≡◌, map}
 use Rattle.std.specs.List.{range_with_len}
 use Rattle.tao_tape.specs.Tapes.{drawn, key_word}
 use Rattle.taostore.proofs.playing.key_words.Given as goal
