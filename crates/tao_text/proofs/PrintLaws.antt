@@ -4,8 +4,7 @@ use Rattle.std.specs.Prelude.{decimal, flat_map}
 use Rattle.std.proofs.lemmas.List.{append-nil}
 use Rattle.hex.specs.Hex.{encode_lower}
 use Rattle.tao_base.specs.Lines.{hex_line, spaced, spaced_hex, words_line}
-use Rattle.tao_text.specs.Spelling.{spelled}
-use Rattle.tao_text.specs.WholeScripts.{spelled_line}
+use Rattle.tao_text.specs.Spelling.{spelled, spelled_line}
 
 -- words behind the first, each after a space
 abbrev further : List (List ℕ) → List ℕ

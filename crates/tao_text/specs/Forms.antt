@@ -1,14 +1,17 @@
--- What the lines of a script say: each form reads the words behind its first word. A fault is the one of smallest number.
-use Rattle.std.specs.Prelude.{ℕ, nat_le, nat_lt, ◌==◌, ◌&&◌, List, [], ◌∷◌, length, codes, Result, Ok, Err, if◌then◌else◌}
+-- The reading of one line, whatever stands before it: what it says, or the fault of smallest number that its words have.
+use Rattle.std.specs.Prelude.{ℕ, ◌==◌, ◌&&◌, nat_le, Bool, List, [], ◌∷◌, slice_index, codes, Option, Some, None, Result, Ok, Err, if◌then◌else◌}
+use Rattle.std.specs.List.{list_all}
 use Rattle.std.specs.Str.{bytes_eq}
-use Rattle.tao_base.specs.Limits.{Shape, shape_of}
 use Rattle.tao_base.specs.declared.calls.Op.{Op}
-use Rattle.tao_base.specs.declared.calls.Op.TheVariants.{Read, Write, Pad}
-use Rattle.tao_base.specs.declared.parameters.ParamFault.{ParamFault}
+use Rattle.tao_base.specs.declared.parameters.Form.{Form}
+use Rattle.tao_base.specs.declared.parameters.Form.TheVariants.{One, Two, Turn}
 use Rattle.tao_base.specs.declared.storage.Entry.{Entry}
 use Rattle.tao_text.specs.declared.faults.TextKind.{TextKind}
-use Rattle.tao_text.specs.declared.faults.TextKind.TheVariants.{Word, Length, Range}
+use Rattle.tao_text.specs.declared.faults.TextKind.TheVariants.{NotText, Word}
+use Rattle.tao_text.specs.declared.said.Said.{Said}
+use Rattle.tao_text.specs.declared.script.What.{What}
 use Rattle.tao_text.specs.Values.{number_of, hex_of}
+use Rattle.tao_text.specs.Words.{words}
 
 -- the next step, where the first gave a value
 infixl 10 ◌>>=◌
@@ -16,20 +19,38 @@ abbrev pub ◌>>=◌ : {A B : Type 0} → Result A TextKind → (A → Result B 
 Ok x >>= f = f x
 Err kind >>= f = Err kind
 
-abbrev pub or_range : Result Shape ParamFault → Result Shape TextKind
-or_range (Ok s) = Ok s
-or_range (Err fault) = Err Range
-
 -- `tree L Z B N k`
-unfoldable pub tree_line : List (List ℕ) → Result Shape TextKind
+unfoldable pub tree_line : List (List ℕ) → Result Said TextKind
 tree_line (l ∷ z ∷ b ∷ n ∷ k ∷ []) = do
   l ← number_of l
   z ← number_of z
   b ← number_of b
   n ← number_of n
   k ← number_of k
-  or_range (shape_of l z b n k)
+  Ok (Said.Tree l z b n k)
 tree_line _ = Err Word
+
+abbrev pub form_named : List ℕ → Result Form TextKind
+form_named name =
+    if bytes_eq name (codes "1") then Ok One
+    else if bytes_eq name (codes "2") then Ok Two
+    else if bytes_eq name (codes "turn") then Ok Turn
+    else Err Word
+
+-- `form 1`, `form 2` or `form turn`
+unfoldable pub form_line : List (List ℕ) → Result Form TextKind
+form_line (name ∷ []) = form_named name
+form_line _ = Err Word
+
+-- `key HEX` or `reopen HEX`
+unfoldable pub value_line : List (List ℕ) → Result (List ℕ) TextKind
+value_line (hex ∷ []) = hex_of hex
+value_line _ = Err Word
+
+-- `seal`
+unfoldable pub seal_line : List (List ℕ) → Result Said TextKind
+seal_line [] = Ok Said.Seal
+seal_line (word ∷ words) = Err Word
 
 unfoldable pub numbers_of : List (List ℕ) → Result (List ℕ) TextKind
 numbers_of [] = Ok []
@@ -51,35 +72,95 @@ load_line (id ∷ hex ∷ []) = do
   Ok (record { id = id; value = value })
 load_line _ = Err Word
 
-unfoldable pub read_words : List ℕ → List ℕ → List (List ℕ) → Result (ℕ × Op) TextKind
-read_words client id [] = do
+unfoldable pub read_words : List ℕ → List (List ℕ) → Result (ℕ × Op) TextKind
+read_words client (id ∷ []) = do
   client ← number_of client
   id ← number_of id
-  Ok (client, Read id)
-read_words client id (more ∷ words) = Err Word
+  Ok (client, Op.Read id)
+read_words client _ = Err Word
 
-unfoldable pub write_words : List ℕ → List ℕ → List (List ℕ) → Result (ℕ × Op) TextKind
-write_words client id (hex ∷ []) = do
+unfoldable pub write_words : List ℕ → List (List ℕ) → Result (ℕ × Op) TextKind
+write_words client (id ∷ hex ∷ []) = do
   client ← number_of client
   id ← number_of id
   value ← hex_of hex
-  Ok (client, Write id value)
-write_words client id _ = Err Word
+  Ok (client, Op.Write id value)
+write_words client _ = Err Word
 
--- `do C read ID` or `do C write ID HEX`: the client and its operation
-unfoldable pub do_line : List (List ℕ) → Result (ℕ × Op) TextKind
-do_line (client ∷ name ∷ id ∷ words) =
-    if bytes_eq name (codes "read") then read_words client id words
-    else if bytes_eq name (codes "write") then write_words client id words
+unfoldable pub pad_words : List ℕ → List (List ℕ) → Result (ℕ × Op) TextKind
+pad_words client [] = do
+  client ← number_of client
+  Ok (client, Op.Pad)
+pad_words client (word ∷ words) = Err Word
+
+-- behind `do` or `a`: `C read ID`, `C write ID HEX` or `C pad`
+unfoldable pub call_line : List (List ℕ) → Result (ℕ × Op) TextKind
+call_line (client ∷ name ∷ words) =
+    if bytes_eq name (codes "read") then read_words client words
+    else if bytes_eq name (codes "write") then write_words client words
+    else if bytes_eq name (codes "pad") then pad_words client words
     else Err Word
-do_line _ = Err Word
+call_line _ = Err Word
 
--- a value has the bytes of a block, and then an id is one of the N
-unfoldable pub entry_fits : Shape → Entry → Result Unit TextKind
-entry_fits s entry = if length entry.value == s.b then (if nat_lt entry.id s.n then Ok tt else Err Range) else Err Length
+-- `read I` or `read I D`
+unfoldable pub read_line : List (List ℕ) → Result What TextKind
+read_line (fetch ∷ []) = do
+  fetch ← number_of fetch
+  Ok (What.Read fetch None)
+read_line (fetch ∷ depth ∷ []) = do
+  fetch ← number_of fetch
+  depth ← number_of depth
+  Ok (What.Read fetch (Some depth))
+read_line _ = Err Word
 
--- the same of an operation, and the client is at most 63
-unfoldable pub call_fits : Shape → ℕ → Op → Result Unit TextKind
-call_fits s client (Read id) = if nat_le client 63 && nat_lt id s.n then Ok tt else Err Range
-call_fits s client (Write id value) = if length value == s.b then (if nat_le client 63 && nat_lt id s.n then Ok tt else Err Range) else Err Length
-call_fits s client Pad = if nat_le client 63 then Ok tt else Err Range
+-- `put V` or `put V NODE`
+unfoldable pub put_line : List (List ℕ) → Result What TextKind
+put_line (version ∷ []) = do
+  version ← number_of version
+  Ok (What.Put version None)
+put_line (version ∷ node ∷ []) = do
+  version ← number_of version
+  node ← number_of node
+  Ok (What.Put version (Some node))
+put_line _ = Err Word
+
+-- `done I` or `ack V`
+unfoldable pub number_line : List (List ℕ) → Result ℕ TextKind
+number_line (number ∷ []) = number_of number
+number_line _ = Err Word
+
+-- a step, by the first word and those behind it
+unfoldable pub step_behind : List ℕ → List (List ℕ) → Result What TextKind
+step_behind name words =
+    if bytes_eq name (codes "do") then (call_line words >>= λ call. Ok (What.Do call.0 call.1))
+    else if bytes_eq name (codes "a") then (call_line words >>= λ call. Ok (What.A call.0 call.1))
+    else if bytes_eq name (codes "read") then read_line words
+    else if bytes_eq name (codes "done") then (number_line words >>= λ fetch. Ok (What.Done fetch))
+    else if bytes_eq name (codes "put") then put_line words
+    else if bytes_eq name (codes "ack") then (number_line words >>= λ version. Ok (What.Ack version))
+    else Err Word
+
+-- a line, by the first word and those behind it
+unfoldable pub said_behind : List ℕ → List (List ℕ) → Result Said TextKind
+said_behind name words =
+    if bytes_eq name (codes "tree") then tree_line words
+    else if bytes_eq name (codes "form") then (form_line words >>= λ form. Ok (Said.Form form))
+    else if bytes_eq name (codes "key") then (value_line words >>= λ bytes. Ok (Said.Key bytes))
+    else if bytes_eq name (codes "seal") then seal_line words
+    else if bytes_eq name (codes "reopen") then (value_line words >>= λ bytes. Ok (Said.Reopen bytes))
+    else if bytes_eq name (codes "tape") then (tape_line words >>= λ tape. Ok (Said.Tape tape))
+    else if bytes_eq name (codes "load") then (load_line words >>= λ entry. Ok (Said.Load entry))
+    else (step_behind name words >>= λ what. Ok (Said.Step what))
+
+-- all bytes are printable
+unfoldable pub is_text : List ℕ → Bool
+is_text line = list_all (λ b. nat_le 32 b && nat_le b 126) line
+
+-- nothing where there are no words, or the first one begins a comment
+abbrev pub words_said : List (List ℕ) → Result (Option Said) TextKind
+words_said [] = Ok None
+words_said (name ∷ words) = if slice_index name 0 == 35 then Ok None else (said_behind name words >>= λ said. Ok (Some said))
+
+-- what a line says, if it isn't skipped
+unfoldable pub line_said : List ℕ → Result (Option Said) TextKind
+line_said line = if is_text line then words_said (words line) else Err NotText

@@ -1,8 +1,11 @@
 pub mod Lines
 pub mod Words
 pub mod Values
-pub mod Forms
-pub mod Scripts
+pub mod LineForms
 pub mod Spelling
-pub mod WholeScripts
 pub mod Kinds
+pub mod Forms
+pub mod Limits
+pub mod Scripts
+pub mod Breaks
+pub mod Texts

@@ -1,132 +1,153 @@
--- Which bytes are a script, and which one: the forms that are read by now.
-use Rattle.std.specs.Prelude.{ℕ, ◌+◌, ◌-◌, ◌^◌, min, nat_le, nat_lt, ◌==◌, ◌&&◌, not, Bool, true, List, [], ◌∷◌, ◌++◌, length, slice_index, slice_get, replicate, codes, Option, Some, None, Result, Ok, Err, if◌then◌else◌}
-use Rattle.std.specs.Result.{result_ok}
-use Rattle.std.specs.Str.{bytes_eq}
-use Rattle.tao_base.specs.Limits.{Shape, session_limit}
-use Rattle.tao_base.specs.declared.calls.Op.{Op}
+-- The reading of a text, line by line: the script that it is, or its first break.
+use Rattle.std.specs.Prelude.{◌≡◌, ◌⊎◌, ℕ, zero, suc, ◌+◌, ◌-◌, ◌^◌, ◌==◌, ◌&&◌, not, nat_le, nat_lt, Bool, true, false, List, [], ◌∷◌, ◌++◌, length, slice_get, replicate, Option, Some, None, is_none, Result, Ok, Err, if◌then◌else◌}
+use Rattle.tao_base.specs.Limits.{Shape, in_form_or_fault}
+use Rattle.tao_base.specs.declared.parameters.Form.{Form}
 use Rattle.tao_base.specs.declared.storage.Entry.{Entry}
+use Rattle.tao_text.specs.declared.draft.Draft.{Draft}
 use Rattle.tao_text.specs.declared.faults.TextFault.{TextFault}
 use Rattle.tao_text.specs.declared.faults.TextKind.{TextKind}
-use Rattle.tao_text.specs.declared.faults.TextKind.TheVariants.{Word, Order, TapeShort, Memory, Unbuilt}
-use Rattle.tao_text.specs.declared.reading.Body.{Body}
+use Rattle.tao_text.specs.declared.faults.TextKind.TheVariants.{Length, Order, TapeShort, TooLong, Memory}
+use Rattle.tao_text.specs.declared.said.Said.{Said}
 use Rattle.tao_text.specs.declared.script.Script.{Script}
-use Rattle.tao_text.specs.declared.script.Step.{Step}
-use Rattle.tao_text.specs.declared.script.What.TheVariants.{Do}
-use Rattle.tao_text.specs.Forms.{◌>>=◌, tree_line, tape_line, load_line, do_line, entry_fits, call_fits}
-use Rattle.tao_text.specs.Words.{lines, words}
+use Rattle.tao_text.specs.declared.script.What.{What}
+use Rattle.tao_text.specs.Breaks.{is_arrival}
+use Rattle.tao_text.specs.Forms.{◌>>=◌, line_said}
+use Rattle.tao_text.specs.Limits.{or_range, params_of, entry_fits, step_fits}
+use Rattle.tao_text.specs.Words.{lines}
 
--- a printable byte, and not a second space
-abbrev pub may_follow : ℕ → ℕ → Bool
-may_follow before b = nat_le 32 b && nat_le b 126 && not (before == 32 && b == 32)
+-- a script with nothing behind its line `tree`
+abbrev pub empty_script : ℕ → Shape → Script
+empty_script number s =
+    record { params = s; tree_line = number; form_line = None; key = replicate 32 0; seal = false; reopen = None; tape = None; loads = []; steps = [] }
 
--- such bytes behind this one, with no space at the end
-unfoldable pub spaced_once : ℕ → List ℕ → Bool
-spaced_once before [] = not (before == 32)
-spaced_once before (b ∷ bytes) = may_follow before b && spaced_once b bytes
+abbrev pub empty_draft : ℕ → Shape → Draft
+empty_draft number s = record { script = empty_script number s; has_key = false; words_left = None }
 
--- words with one space between each two, and no comment
-abbrev pub is_plain : List ℕ → Bool
-is_plain line = spaced_once 32 line && not (slice_index line 0 == 35)
+-- the first line that says something is `tree`
+unfoldable pub opening : ℕ → Said → Result Draft TextKind
+opening number (Said.Tree l z b n k) = do
+  s ← params_of l z b n k
+  Ok (empty_draft number s)
+opening number (Said.Form form) = Err Order
+opening number (Said.Key bytes) = Err Order
+opening number Said.Seal = Err Order
+opening number (Said.Reopen bytes) = Err Order
+opening number (Said.Tape tape) = Err Order
+opening number (Said.Load entry) = Err Order
+opening number (Said.Step what) = Err Order
 
-abbrev pub words_behind : List ℕ → List (List ℕ) → Result (List (List ℕ)) TextKind
-words_behind name [] = Err Word
-words_behind name (word ∷ rest) = if bytes_eq word name then Ok rest else Err Order
+-- whether a line of its kind or a later one doesn't stand before
+abbrev pub no_loads : Draft → Bool
+no_loads d = length d.script.loads == 0 && length d.script.steps == 0
 
--- the words behind the first word, which is this one
-unfoldable pub behind : List ℕ → List ℕ → Result (List (List ℕ)) TextKind
-behind name line = if is_plain line then words_behind name (words line) else Err Unbuilt
+abbrev pub no_tape : Draft → Bool
+no_tape d = is_none d.script.tape && no_loads d
 
--- the first line: every fetched path is followed by its write-back
-unfoldable pub first_line : List ℕ → Result Shape TextKind
-first_line line = do
-  rest ← behind (codes "tree") line
-  s ← tree_line rest
-  if s.k == 1 then Ok s else Err Unbuilt
+abbrev pub no_key : Draft → Bool
+no_key d = not d.has_key && no_tape d
 
--- the second line: a tape word for each block at least
-unfoldable pub second_line : Shape → List ℕ → Result (List ℕ) TextKind
-second_line s line = do
-  rest ← behind (codes "tape") line
-  tape ← tape_line rest
-  if nat_lt (length tape) s.n then Err TapeShort else Ok tape
+abbrev pub no_form : Draft → Bool
+no_form d = is_none d.script.form_line && no_key d
 
--- as many operations as a session and the further words of the tape allow
-abbrev pub most_calls : Shape → List ℕ → ℕ
-most_calls s tape = min (session_limit s) (length tape - s.n)
+unfoldable pub add_form : Draft → ℕ → Form → Result Draft TextKind
+add_form d number form = do
+  s ← or_range (in_form_or_fault d.script.params form)
+  if no_form d then Ok (record d { script = record d.script { params = s; form_line = Some number } }) else Err Order
+
+unfoldable pub add_key : Draft → List ℕ → Result Draft TextKind
+add_key d bytes =
+    if length bytes == 32 then (if no_key d then Ok (record d { script = record d.script { key = bytes }; has_key = true }) else Err Order)
+    else Err Length
+
+unfoldable pub add_tape : Draft → List ℕ → Result Draft TextKind
+add_tape d tape =
+    if no_tape d then (if nat_lt (length tape) d.script.params.n then Err TapeShort else Ok (record d { script = record d.script { tape = Some tape }; words_left = Some (length tape - d.script.params.n) }))
+    else Err Order
 
 abbrev pub is_above : Option Entry → ℕ → Bool
 is_above None id = true
 is_above (Some last) id = nat_lt last.id id
 
 -- loads stand before all steps, by rising ids
-abbrev pub may_load : Body → ℕ → Bool
-may_load body id = length body.steps == 0 && is_above (slice_get body.loads (length body.loads - 1)) id
+abbrev pub may_load : Draft → ℕ → Bool
+may_load d id = length d.script.steps == 0 && is_above (slice_get d.script.loads (length d.script.loads - 1)) id
 
-unfoldable pub load_with : Shape → Body → List (List ℕ) → Result Body TextKind
-load_with s body rest = do
-  entry ← load_line rest
-  fits ← entry_fits s entry
-  if may_load body entry.id then Ok (record body { loads = body.loads ++ entry ∷ [] }) else Err Order
+unfoldable pub add_load : Draft → Entry → Result Draft TextKind
+add_load d entry = do
+  fits ← entry_fits d.script.params entry
+  if may_load d entry.id then Ok (record d { script = record d.script { loads = d.script.loads ++ entry ∷ [] } }) else Err Order
 
-abbrev pub do_step : ℕ → ℕ × Op → Step
-do_step number call = record { line = number; what = Do call.0 call.1 }
+-- what an arrival leaves of the words, where the tape is a list
+abbrev pub one_less : Option ℕ → Result (Option ℕ) TextKind
+one_less None = Ok None
+one_less (Some zero) = Err TapeShort
+one_less (Some (suc words)) = Ok (Some words)
 
-unfoldable pub do_with : Shape → ℕ → ℕ → Body → List (List ℕ) → Result Body TextKind
-do_with s most number body rest = do
-  call ← do_line rest
-  fits ← call_fits s call.0 call.1
-  if nat_lt (length body.steps) most then Ok (record body { steps = body.steps ++ do_step number call ∷ [] }) else Err Unbuilt
+abbrev pub words_behind : What → Option ℕ → Result (Option ℕ) TextKind
+words_behind what words_left = if is_arrival what then one_less words_left else Ok words_left
 
-abbrev pub words_with : Shape → ℕ → ℕ → Body → List (List ℕ) → Result Body TextKind
-words_with s most number body [] = Err Word
-words_with s most number body (name ∷ rest) =
-    if bytes_eq name (codes "load") then load_with s body rest
-    else if bytes_eq name (codes "do") then do_with s most number body rest
-    else Err Word
+unfoldable pub add_step : Draft → ℕ → What → Result Draft TextKind
+add_step d number what = do
+  fits ← step_fits d.script.params what
+  words_left ← words_behind what d.words_left
+  Ok (record d { script = record d.script { steps = d.script.steps ++ record { line = number; what = what } ∷ [] }; words_left = words_left })
+
+-- a line behind the line `tree`
+unfoldable pub add : Draft → ℕ → Said → Result Draft TextKind
+add d number (Said.Tree l z b n k) = do
+  s ← params_of l z b n k
+  Err Order
+add d number (Said.Form form) = add_form d number form
+add d number (Said.Key bytes) = add_key d bytes
+add d number Said.Seal = Err Order
+add d number (Said.Reopen bytes) = Err Order
+add d number (Said.Tape tape) = add_tape d tape
+add d number (Said.Load entry) = add_load d entry
+add d number (Said.Step what) = add_step d number what
+
+abbrev pub next : Option Draft → ℕ → Said → Result Draft TextKind
+next None number said = opening number said
+next (Some d) number said = add d number said
+
+abbrev pub next_or_same : Option Draft → ℕ → Option Said → Result (Option Draft) TextKind
+next_or_same draft number None = Ok draft
+next_or_same draft number (Some said) = next draft number said >>= λ d. Ok (Some d)
 
 -- what was read before, and the line of this number
-unfoldable pub line_with : Shape → ℕ → ℕ → Body → List ℕ → Result Body TextKind
-line_with s most number body line = if is_plain line then words_with s most number body (words line) else Err Unbuilt
+unfoldable pub line_with : Option Draft → ℕ → List ℕ → Result (Option Draft) TextKind
+line_with draft number line = do
+  said ← line_said line
+  next_or_same draft number said
+
+abbrev pub fault_at : ℕ → TextKind → TextFault
+fault_at line kind = record { line = line; kind = kind }
+
+-- the end of a text: it has to have a line `tree`
+abbrev pub ended : Option Draft → ℕ → Result Script TextFault
+ended None number = Err (fault_at number Order)
+ended (Some d) number = Ok d.script
+
+abbrev pub after_line : ℕ → Result (Option Draft) TextKind → (Option Draft → Result Script TextFault) → Result Script TextFault
+after_line number (Ok draft) rest = rest draft
+after_line number (Err kind) rest = Err (fault_at number kind)
 
 -- what was read before, and these lines, the first of this number
-unfoldable pub lines_with : Shape → ℕ → ℕ → Body → List (List ℕ) → Result Body TextKind
-lines_with s most number body [] = Ok body
-lines_with s most number body (line ∷ rest) = do
-  next ← line_with s most number body line
-  lines_with s most (number + 1) next rest
+unfoldable pub lines_with : Option Draft → ℕ → List (List ℕ) → Result Script TextFault
+lines_with draft number [] = ended draft number
+lines_with draft number (line ∷ rest) = after_line number (line_with draft number line) (λ next. lines_with next (number + 1) rest)
 
-abbrev pub no_body : Body
-no_body = record { loads = []; steps = [] }
+-- the script that these bytes are, or their first break
+unfoldable pub reading : List ℕ → Result Script TextFault
+reading bytes = if nat_le (length bytes) (2 ^ 24) then lines_with None 1 (lines bytes) else Err (fault_at 0 TooLong)
 
-abbrev pub script_with : Shape → List ℕ → Body → Script
-script_with s tape body = record { params = s; key = replicate 32 0; tape = Some tape; loads = body.loads; steps = body.steps }
-
-unfoldable pub script_lines : List (List ℕ) → Result Script TextKind
-script_lines (first ∷ second ∷ rest) = do
-  s ← first_line first
-  tape ← second_line s second
-  body ← lines_with s (most_calls s tape) 3 no_body rest
-  Ok (script_with s tape body)
-script_lines _ = Err Unbuilt
-
-abbrev pub ends_line : List ℕ → Bool
-ends_line bytes = slice_index bytes (length bytes - 1) == 10
-
-unfoldable pub whole_script : List ℕ → Result Script TextKind
-whole_script bytes = if nat_le (length bytes) (2 ^ 24) && ends_line bytes then script_lines (lines bytes) else Err Unbuilt
-
--- the script that these bytes are, if they are one
-unfoldable pub script_of : List ℕ → Option Script
-script_of bytes = result_ok (whole_script bytes)
-
--- the two refusals
-abbrev pub unbuilt : TextFault
-unbuilt = record { line = 0; kind = Unbuilt }
-
+-- a function answers what a reading says, or that memory ran out
 abbrev pub no_memory : TextFault
-no_memory = record { line = 0; kind = Memory }
+no_memory = fault_at 0 Memory
 
--- what is told of a fault: want of memory, and else that the text is no script that is read by now
-abbrev pub refusal : TextKind → TextFault
-refusal Memory = no_memory
-refusal kind = unbuilt
+abbrev pub GivesLine : Option Draft → ℕ → Result Unit TextFault → Result (Option Draft) TextKind → Type 0
+GivesLine new number (Ok done) read = read ≡ Ok new
+GivesLine new number (Err fault) read = (fault ≡ no_memory) ⊎ ((kind : TextKind) × (read ≡ Err kind) × (fault ≡ fault_at number kind))
+
+abbrev pub GivesScript : Result Script TextFault → Result Script TextFault → Type 0
+GivesScript (Ok script) read = read ≡ Ok script
+GivesScript (Err fault) read = (fault ≡ no_memory) ⊎ (read ≡ Err fault)

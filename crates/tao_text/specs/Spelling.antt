@@ -1,13 +1,14 @@
--- How scripts are spelled, line by line. Hex may be in digits of either case.
-use Rattle.std.specs.Prelude.{◌≡◌, ◌≢◌, ℕ, ◌^◌, ◌<◌, ◌≤◌, List, [], ◌∷◌, length, map, slice_index, codes, decimal, All}
+-- What the words of a line say: one clause a line form. Hex may be in digits of either case.
+use Rattle.std.specs.Prelude.{◌≡◌, ℕ, ◌^◌, ◌<◌, ◌≤◌, List, [], ◌∷◌, ◌++◌, length, map, codes, decimal, All, Some, None}
 use Rattle.std.specs.List.{join_with_byte}
 use Rattle.std.specs.Str.{str_to_ascii_lowercase}
 use Rattle.hex.specs.Hex.{IsBytes, encode_lower}
-use Rattle.tao_base.specs.Limits.{Shape, IsShape}
 use Rattle.tao_base.specs.declared.calls.Op.{Op}
-use Rattle.tao_base.specs.declared.calls.Op.TheVariants.{Read, Write, Pad}
-use Rattle.tao_base.specs.declared.parameters.Form.TheVariants.{One}
+use Rattle.tao_base.specs.declared.parameters.Form.{Form}
+use Rattle.tao_base.specs.declared.parameters.Form.TheVariants.{One, Two, Turn}
 use Rattle.tao_base.specs.declared.storage.Entry.{Entry}
+use Rattle.tao_text.specs.declared.said.Said.{Said}
+use Rattle.tao_text.specs.declared.script.What.{What}
 
 -- the word is the decimal spelling of a number below 2 ^ 32
 abbrev pub IsNumber : List ℕ → ℕ → Type 0
@@ -17,27 +18,46 @@ IsNumber word n = (word ≡ decimal n) × (n < 2 ^ 32)
 abbrev pub IsHex : List ℕ → List ℕ → Type 0
 IsHex word bytes = (str_to_ascii_lowercase word ≡ encode_lower bytes) × IsBytes bytes
 
--- the words behind `tree` that spell these parameters
-abbrev pub tree_words : Shape → List (List ℕ)
-tree_words s = map decimal (s.l ∷ s.z ∷ s.b ∷ s.n ∷ s.k ∷ [])
-
--- parameters of form One within all limits
-abbrev pub IsPlainShape : Shape → Type 0
-IsPlainShape s = IsShape s × (s.form ≡ One)
-
 -- a tape of one word or more
 abbrev pub IsTape : List ℕ → Type 0
 IsTape tape = (0 < length tape) × All (λ n. n < 2 ^ 32) tape
+
+abbrev pub form_word : Form → List ℕ
+form_word One = codes "1"
+form_word Two = codes "2"
+form_word Turn = codes "turn"
 
 -- the words behind `load` that spell an entry
 abbrev pub SpellsLoad : List (List ℕ) → Entry → Type 0
 SpellsLoad words entry = (hex : List ℕ) × (words ≡ decimal entry.id ∷ hex ∷ []) × (entry.id < 2 ^ 32) × IsHex hex entry.value
 
--- the words behind `do` that spell a client and its operation
+-- the words behind `do` or `a` that spell a client and its operation
 abbrev pub SpellsCall : List (List ℕ) → ℕ → Op → Type 0
-SpellsCall words client (Read id) = (words ≡ decimal client ∷ codes "read" ∷ decimal id ∷ []) × (client < 2 ^ 32) × (id < 2 ^ 32)
-SpellsCall words client (Write id value) = (hex : List ℕ) × (words ≡ decimal client ∷ codes "write" ∷ decimal id ∷ hex ∷ []) × (client < 2 ^ 32) × (id < 2 ^ 32) × IsHex hex value
-SpellsCall words client Pad = ⊥
+SpellsCall words client (Op.Read id) = (words ≡ decimal client ∷ codes "read" ∷ decimal id ∷ []) × (client < 2 ^ 32) × (id < 2 ^ 32)
+SpellsCall words client (Op.Write id value) = (hex : List ℕ) × (words ≡ decimal client ∷ codes "write" ∷ decimal id ∷ hex ∷ []) × (client < 2 ^ 32) × (id < 2 ^ 32) × IsHex hex value
+SpellsCall words client Op.Pad = (words ≡ decimal client ∷ codes "pad" ∷ []) × (client < 2 ^ 32)
+
+-- a step
+abbrev pub SpellsStep : List (List ℕ) → What → Type 0
+SpellsStep words (What.Do client op) = (rest : List (List ℕ)) × (words ≡ codes "do" ∷ rest) × SpellsCall rest client op
+SpellsStep words (What.A client op) = (rest : List (List ℕ)) × (words ≡ codes "a" ∷ rest) × SpellsCall rest client op
+SpellsStep words (What.Read fetch None) = (words ≡ codes "read" ∷ decimal fetch ∷ []) × (fetch < 2 ^ 32)
+SpellsStep words (What.Read fetch (Some depth)) = (words ≡ codes "read" ∷ decimal fetch ∷ decimal depth ∷ []) × (fetch < 2 ^ 32) × (depth < 2 ^ 32)
+SpellsStep words (What.Done fetch) = (words ≡ codes "done" ∷ decimal fetch ∷ []) × (fetch < 2 ^ 32)
+SpellsStep words (What.Put version None) = (words ≡ codes "put" ∷ decimal version ∷ []) × (version < 2 ^ 32)
+SpellsStep words (What.Put version (Some node)) = (words ≡ codes "put" ∷ decimal version ∷ decimal node ∷ []) × (version < 2 ^ 32) × (node < 2 ^ 32)
+SpellsStep words (What.Ack version) = (words ≡ codes "ack" ∷ decimal version ∷ []) × (version < 2 ^ 32)
+
+-- a line
+abbrev pub Says : List (List ℕ) → Said → Type 0
+Says words (Said.Tree l z b n k) = (words ≡ codes "tree" ∷ map decimal (l ∷ z ∷ b ∷ n ∷ k ∷ [])) × All (λ m. m < 2 ^ 32) (l ∷ z ∷ b ∷ n ∷ k ∷ [])
+Says words (Said.Form form) = words ≡ codes "form" ∷ form_word form ∷ []
+Says words (Said.Key bytes) = (hex : List ℕ) × (words ≡ codes "key" ∷ hex ∷ []) × IsHex hex bytes
+Says words Said.Seal = words ≡ codes "seal" ∷ []
+Says words (Said.Reopen bytes) = (hex : List ℕ) × (words ≡ codes "reopen" ∷ hex ∷ []) × IsHex hex bytes
+Says words (Said.Tape tape) = (words ≡ codes "tape" ∷ map decimal tape) × IsTape tape
+Says words (Said.Load entry) = (rest : List (List ℕ)) × (words ≡ codes "load" ∷ rest) × SpellsLoad rest entry
+Says words (Said.Step what) = SpellsStep words what
 
 -- a word: printable bytes other than a space
 pub record IsWord (word : List ℕ) : Type 0 where
@@ -48,8 +68,6 @@ pub record IsWord (word : List ℕ) : Type 0 where
 abbrev pub spelled : List (List ℕ) → List ℕ
 spelled ws = join_with_byte 32 ws
 
--- the words of a line that is no comment
-pub record IsLine (ws : List (List ℕ)) : Type 0 where
-  pub some : 0 < length ws
-  pub each : All IsWord ws
-  pub no_comment : slice_index (spelled ws) 0 ≢ 35
+-- such a line of a text
+abbrev pub spelled_line : List (List ℕ) → List ℕ
+spelled_line ws = spelled ws ++ 10 ∷ []

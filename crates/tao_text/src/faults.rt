@@ -27,8 +27,6 @@ pub enum TextKind {
     TooLong = 9,
     /// Memory ran out.
     Memory = 10,
-    /// The text is no script of the forms that are read by now.
-    Unbuilt = 11,
 }
 
 impl TextKind {
@@ -50,7 +48,6 @@ impl TextKind {
             TextKind::TapeShort => "TapeShort",
             TextKind::TooLong => "TooLong",
             TextKind::Memory => "Memory",
-            TextKind::Unbuilt => "Unbuilt",
         }
     }
 }

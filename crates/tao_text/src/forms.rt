@@ -1,18 +1,102 @@
-//! What the lines of a script say. Each reader takes the line behind its first word.
+//! What the lines of a script say, whatever stands before them.
 ghost use Rattle.std.specs.Prelude.{◌≡◌};
-ghost use Rattle.tao_text.specs.Forms.{call_fits, do_line, entry_fits, load_line, numbers_of, read_words, tape_line, tree_line, write_words};
+ghost use Rattle.tao_text.specs.Forms.{call_line, form_line, is_text, line_said, load_line, number_line, numbers_of, put_line, read_line, read_words, said_behind, seal_line, step_behind, tape_line, tree_line, value_line, write_words, pad_words};
 ghost use Rattle.tao_text.specs.Values.{Gives};
 ghost use Rattle.tao_text.specs.Words.{words};
 
 use crate::faults::TextKind;
+use crate::said::Said;
+use crate::script::What;
 use crate::values::{hex_of, number_of};
 use crate::words::{next_word, no_more_words};
 use std::alloc::Global;
-use tao_base::{Entry, Numbers, Op, Params};
+use tao_base::{Block, Entry, Form, Numbers, Op};
+
+#[tactic(auto, unfolding(crate::specs::Forms::line_said))]
+/// What a line says: nothing where it has no words or is a comment.
+pub(crate) fn line_said(alloc: Global, line: &[u8]) -> Result<Option<Said>, TextKind>
+    ensures { Gives (λ said. said) result (line_said line.now) }
+{
+    if !is_text(line) {
+        return Err(TextKind::NotText);
+    }
+    let Ok((name, rest)) = next_word(line) else {
+        return Ok(None);
+    };
+    if name.first() == Some(&b'#') {
+        return Ok(None);
+    }
+    Ok(Some(said_behind(alloc, name, rest)?))
+}
+
+#[tactic(auto, unfolding(crate::specs::Forms::is_text))]
+// Whether all bytes are printable.
+fn is_text(line: &[u8]) -> bool
+    ensures { result ≡ is_text line.now }
+{
+    line.iter().all(|byte| b' ' <= *byte && *byte <= b'~')
+}
+
+#[tactic(auto, unfolding(crate::specs::Forms::said_behind))]
+// What a line says by its first word and the line behind it.
+fn said_behind(alloc: Global, name: &[u8], rest: &[u8]) -> Result<Said, TextKind>
+    ensures { Gives (λ said. said) result (said_behind name.now (words rest.now)) }
+{
+    if name == b"tree".as_slice() {
+        return tree_line(rest);
+    }
+    if name == b"form".as_slice() {
+        return Ok(Said::Form(form_line(rest)?));
+    }
+    if name == b"key".as_slice() {
+        return Ok(Said::Key(value_line(alloc, rest)?));
+    }
+    if name == b"seal".as_slice() {
+        return seal_line(rest);
+    }
+    if name == b"reopen".as_slice() {
+        return Ok(Said::Reopen(value_line(alloc, rest)?));
+    }
+    if name == b"tape".as_slice() {
+        return Ok(Said::Tape(tape_line(alloc, rest)?));
+    }
+    if name == b"load".as_slice() {
+        return Ok(Said::Load(load_line(alloc, rest)?));
+    }
+    Ok(Said::Step(step_behind(alloc, name, rest)?))
+}
+
+#[tactic(auto, unfolding(crate::specs::Forms::step_behind))]
+// The step of a line by its first word.
+fn step_behind(alloc: Global, name: &[u8], rest: &[u8]) -> Result<What, TextKind>
+    ensures { Gives (λ what. what) result (step_behind name.now (words rest.now)) }
+{
+    if name == b"do".as_slice() {
+        let (client, op) = call_line(alloc, rest)?;
+        return Ok(What::Do(client, op));
+    }
+    if name == b"a".as_slice() {
+        let (client, op) = call_line(alloc, rest)?;
+        return Ok(What::A(client, op));
+    }
+    if name == b"read".as_slice() {
+        return read_line(rest);
+    }
+    if name == b"done".as_slice() {
+        return Ok(What::Done(u64::from(number_line(rest)?)));
+    }
+    if name == b"put".as_slice() {
+        return put_line(rest);
+    }
+    if name == b"ack".as_slice() {
+        return Ok(What::Ack(number_line(rest)?));
+    }
+    Err(TextKind::Word)
+}
 
 #[tactic(auto, unfolding(crate::specs::Forms::tree_line))]
-/// The parameters of `tree L Z B N k`.
-pub(crate) fn tree_line(line: &[u8]) -> Result<Params, TextKind>
+// `tree L Z B N k`
+fn tree_line(line: &[u8]) -> Result<Said, TextKind>
     ensures { result ≡ tree_line (words line.now) }
 {
     let (l, rest) = next_word(line)?;
@@ -21,21 +105,56 @@ pub(crate) fn tree_line(line: &[u8]) -> Result<Params, TextKind>
     let (n, rest) = next_word(rest)?;
     let (k, rest) = next_word(rest)?;
     no_more_words(rest)?;
-    match Params::new(
+    Ok(Said::Tree(
         number_of(l)?,
         number_of(z)?,
         number_of(b)?,
         number_of(n)?,
         number_of(k)?,
-    ) {
-        Ok(params) => Ok(params),
-        Err(_) => Err(TextKind::Range),
+    ))
+}
+
+#[tactic(auto, unfolding(crate::specs::Forms::form_line))]
+// `form 1`, `form 2` or `form turn`
+fn form_line(line: &[u8]) -> Result<Form, TextKind>
+    ensures { result ≡ form_line (words line.now) }
+{
+    let (name, rest) = next_word(line)?;
+    no_more_words(rest)?;
+    if name == b"1".as_slice() {
+        return Ok(Form::One);
     }
+    if name == b"2".as_slice() {
+        return Ok(Form::Two);
+    }
+    if name == b"turn".as_slice() {
+        return Ok(Form::Turn);
+    }
+    Err(TextKind::Word)
+}
+
+#[tactic(auto, unfolding(crate::specs::Forms::value_line))]
+// `key HEX` or `reopen HEX`
+fn value_line(alloc: Global, line: &[u8]) -> Result<Block, TextKind>
+    ensures { Gives (λ value. value) result (value_line (words line.now)) }
+{
+    let (value, rest) = next_word(line)?;
+    no_more_words(rest)?;
+    hex_of(alloc, value)
+}
+
+#[tactic(auto, unfolding(crate::specs::Forms::seal_line))]
+// `seal`
+fn seal_line(line: &[u8]) -> Result<Said, TextKind>
+    ensures { result ≡ seal_line (words line.now) }
+{
+    no_more_words(line)?;
+    Ok(Said::Seal)
 }
 
 #[tactic(auto, unfolding(crate::specs::Forms::tape_line))]
-/// The words of `tape W W ..`.
-pub(crate) fn tape_line(alloc: Global, line: &[u8]) -> Result<Numbers, TextKind>
+// `tape W W ..`
+fn tape_line(alloc: Global, line: &[u8]) -> Result<Numbers, TextKind>
     ensures { Gives (λ numbers. numbers) result (tape_line (words line.now)) }
 {
     next_word(line)?;
@@ -56,8 +175,8 @@ fn numbers_of(alloc: Global, line: &[u8]) -> Result<Numbers, TextKind>
 }
 
 #[tactic(auto, unfolding(crate::specs::Forms::load_line))]
-/// The entry of `load ID HEX`.
-pub(crate) fn load_line(alloc: Global, line: &[u8]) -> Result<Entry, TextKind>
+// `load ID HEX`
+fn load_line(alloc: Global, line: &[u8]) -> Result<Entry, TextKind>
     ensures { Gives (λ entry. entry) result (load_line (words line.now)) }
 {
     let (id, rest) = next_word(line)?;
@@ -68,27 +187,30 @@ pub(crate) fn load_line(alloc: Global, line: &[u8]) -> Result<Entry, TextKind>
     Ok(Entry { id, value })
 }
 
-#[tactic(auto, unfolding(crate::specs::Forms::do_line))]
-/// The client and the operation of `do C read ID` or `do C write ID HEX`.
-pub(crate) fn do_line(alloc: Global, line: &[u8]) -> Result<(u32, Op), TextKind>
-    ensures { Gives (λ call. call) result (do_line (words line.now)) }
+#[tactic(auto, unfolding(crate::specs::Forms::call_line))]
+// The client and the operation of `do C read ID`, `do C write ID HEX` or `do C pad`, and of the same behind `a`.
+fn call_line(alloc: Global, line: &[u8]) -> Result<(u32, Op), TextKind>
+    ensures { Gives (λ call. call) result (call_line (words line.now)) }
 {
     let (client, rest) = next_word(line)?;
     let (name, rest) = next_word(rest)?;
-    let (id, rest) = next_word(rest)?;
     if name == b"read".as_slice() {
-        return read_words(client, id, rest);
+        return read_words(client, rest);
     }
     if name == b"write".as_slice() {
-        return write_words(alloc, client, id, rest);
+        return write_words(alloc, client, rest);
+    }
+    if name == b"pad".as_slice() {
+        return pad_words(client, rest);
     }
     Err(TextKind::Word)
 }
 
 #[tactic(auto, unfolding(crate::specs::Forms::read_words))]
-fn read_words(client: &[u8], id: &[u8], rest: &[u8]) -> Result<(u32, Op), TextKind>
-    ensures { result ≡ read_words client.now id.now (words rest.now) }
+fn read_words(client: &[u8], rest: &[u8]) -> Result<(u32, Op), TextKind>
+    ensures { result ≡ read_words client.now (words rest.now) }
 {
+    let (id, rest) = next_word(rest)?;
     no_more_words(rest)?;
     let client = number_of(client)?;
     let id = number_of(id)?;
@@ -96,9 +218,10 @@ fn read_words(client: &[u8], id: &[u8], rest: &[u8]) -> Result<(u32, Op), TextKi
 }
 
 #[tactic(auto, unfolding(crate::specs::Forms::write_words))]
-fn write_words(alloc: Global, client: &[u8], id: &[u8], rest: &[u8]) -> Result<(u32, Op), TextKind>
-    ensures { Gives (λ call. call) result (write_words client.now id.now (words rest.now)) }
+fn write_words(alloc: Global, client: &[u8], rest: &[u8]) -> Result<(u32, Op), TextKind>
+    ensures { Gives (λ call. call) result (write_words client.now (words rest.now)) }
 {
+    let (id, rest) = next_word(rest)?;
     let (value, rest) = next_word(rest)?;
     no_more_words(rest)?;
     let client = number_of(client)?;
@@ -107,40 +230,50 @@ fn write_words(alloc: Global, client: &[u8], id: &[u8], rest: &[u8]) -> Result<(
     Ok((client, Op::Write(id, value)))
 }
 
-#[tactic(auto, unfolding(crate::specs::Forms::entry_fits))]
-/// Whether an entry is within the parameters.
-pub(crate) fn entry_fits(params: &Params, entry: &Entry) -> Result<(), TextKind>
-    ensures { result ≡ entry_fits params.now entry.now }
+#[tactic(auto, unfolding(crate::specs::Forms::pad_words))]
+fn pad_words(client: &[u8], rest: &[u8]) -> Result<(u32, Op), TextKind>
+    ensures { result ≡ pad_words client.now (words rest.now) }
 {
-    if entry.value.as_slice().len() != params.b() as usize {
-        return Err(TextKind::Length);
-    }
-    if params.n() <= entry.id {
-        return Err(TextKind::Range);
-    }
-    Ok(())
+    no_more_words(rest)?;
+    Ok((number_of(client)?, Op::Pad))
 }
 
-#[tactic(auto, unfolding(crate::specs::Forms::call_fits))]
-/// Whether a client and its operation are within the parameters.
-pub(crate) fn call_fits(params: &Params, client: u32, op: &Op) -> Result<(), TextKind>
-    ensures { result ≡ call_fits params.now client op.now }
+#[tactic(auto, unfolding(crate::specs::Forms::read_line))]
+// `read I` or `read I D`
+fn read_line(line: &[u8]) -> Result<What, TextKind>
+    ensures { result ≡ read_line (words line.now) }
 {
-    if let Op::Write(_, value) = op {
-        if value.as_slice().len() != params.b() as usize {
-            return Err(TextKind::Length);
-        }
-    }
-    let known = match op {
-        Op::Read(id) | Op::Write(id, _) => *id < params.n(),
-        Op::Pad => true,
+    let (fetch, rest) = next_word(line)?;
+    let Ok((depth, rest)) = next_word(rest) else {
+        return Ok(What::Read(u64::from(number_of(fetch)?), None));
     };
-    if known && client <= MOST_CLIENT {
-        Ok(())
-    } else {
-        Err(TextKind::Range)
-    }
+    no_more_words(rest)?;
+    let fetch = number_of(fetch)?;
+    let depth = number_of(depth)?;
+    Ok(What::Read(u64::from(fetch), Some(depth)))
 }
 
-// the greatest client number
-const MOST_CLIENT: u32 = 63;
+#[tactic(auto, unfolding(crate::specs::Forms::put_line))]
+// `put V` or `put V NODE`
+fn put_line(line: &[u8]) -> Result<What, TextKind>
+    ensures { result ≡ put_line (words line.now) }
+{
+    let (version, rest) = next_word(line)?;
+    let Ok((node, rest)) = next_word(rest) else {
+        return Ok(What::Put(number_of(version)?, None));
+    };
+    no_more_words(rest)?;
+    let version = number_of(version)?;
+    let node = number_of(node)?;
+    Ok(What::Put(version, Some(node)))
+}
+
+#[tactic(auto, unfolding(crate::specs::Forms::number_line))]
+// The number of `done I` or `ack V`.
+fn number_line(line: &[u8]) -> Result<u32, TextKind>
+    ensures { result ≡ number_line (words line.now) }
+{
+    let (number, rest) = next_word(line)?;
+    no_more_words(rest)?;
+    number_of(number)
+}

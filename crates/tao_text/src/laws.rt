@@ -1,17 +1,17 @@
 //! What the readings and the printed lines mean, in the words of the text: laws of the definitions alone.
-ghost use Rattle.std.specs.Prelude.{◌≡◌, ◌≢◌, ◌↔◌, ℕ, ◌<◌, List, [], ◌∷◌, ◌++◌, length, map, decimal, All, IsTrue, Ok, Err, Some};
+ghost use Rattle.std.specs.Prelude.{◌≡◌, ◌≢◌, ◌↔◌, ℕ, ◌<◌, List, [], ◌∷◌, ◌++◌, length, map, decimal, All, Ok, Err, Some, None};
 ghost use Rattle.hex.specs.Hex.{encode_lower};
-ghost use Rattle.tao_base.specs.Limits.{Shape};
 ghost use Rattle.tao_base.specs.Lines.{hex_line, words_line};
-ghost use Rattle.tao_base.specs.declared.calls.Op.{Op};
-ghost use Rattle.tao_base.specs.declared.storage.Entry.{Entry};
+ghost use Rattle.tao_text.specs.declared.faults.TextFault.{TextFault};
 ghost use Rattle.tao_text.specs.declared.faults.TextKind.{TextKind};
+ghost use Rattle.tao_text.specs.declared.said.Said.{Said};
 ghost use Rattle.tao_text.specs.declared.script.Script.{Script};
-ghost use Rattle.tao_text.specs.Forms.{call_fits, do_line, entry_fits, load_line, tape_line, tree_line};
-ghost use Rattle.tao_text.specs.Scripts.{is_plain, script_of};
-ghost use Rattle.tao_text.specs.Spelling.{IsHex, IsLine, IsNumber, IsPlainShape, IsTape, SpellsCall, SpellsLoad, spelled, tree_words};
+ghost use Rattle.tao_text.specs.Breaks.{IsFirstFault, IsNoText, IsSkipped, Item};
+ghost use Rattle.tao_text.specs.Forms.{line_said};
+ghost use Rattle.tao_text.specs.Scripts.{reading};
+ghost use Rattle.tao_text.specs.Spelling.{IsHex, IsNumber, IsWord, Says, spelled, spelled_line};
+ghost use Rattle.tao_text.specs.Texts.{FirstBreak, IsScript, IsScriptText};
 ghost use Rattle.tao_text.specs.Values.{hex_of, number_of};
-ghost use Rattle.tao_text.specs.WholeScripts.{IsCallOf, IsEntryOf, IsScript, SpellsScript, spelled_line};
 ghost use Rattle.tao_text.specs.Words.{lines, words};
 
 /// A line's words are what stands between its spaces, one or more.
@@ -28,11 +28,6 @@ pub fn lines_end_with_a_byte()
     ensures two { (line rest : List ℕ) → All (λ b. b ≢ 10) line → lines (line ++ 10 ∷ rest) ≡ line ∷ lines rest }
 {}
 
-/// A plain line is printable words with one space between each two, and no comment.
-pub fn plain_lines_are_spelled()
-    ensures { (line : List ℕ) → IsTrue (is_plain line) ↔ ((ws : List (List ℕ)) × IsLine ws × (line ≡ spelled ws)) }
-{}
-
 /// A Number's word is its decimal spelling. Any other word has the fault Number.
 pub fn numbers_are_decimal()
     ensures read { (word : List ℕ) (n : ℕ) → (number_of word ≡ Ok n) ↔ IsNumber word n }
@@ -45,37 +40,28 @@ pub fn values_are_hex()
     ensures fault { (word : List ℕ) (kind : TextKind) → hex_of word ≡ Err kind → kind ≡ TextKind.Hex }
 {}
 
-/// `tree L Z B N k` reads as parameters exactly where it spells them and they are within all limits.
-pub fn tree_lines_are_spelled()
-    ensures { (ws : List (List ℕ)) (s : Shape) → (tree_line ws ≡ Ok s) ↔ ((ws ≡ tree_words s) × IsPlainShape s) }
+/// The reading of one line: it says something exactly where its words spell that; it is skipped exactly where it has no words or is a
+/// comment, all its bytes being printable; and else it has, of the faults that it has by itself, the one of smallest number.
+pub fn lines_are_spelled()
+    ensures said { (line : List ℕ) (said : Said) → (line_said line ≡ Ok (Some said)) ↔ ((¬ IsNoText line) × (¬ IsSkipped (words line)) × Says (words line) said) }
+    ensures skipped { (line : List ℕ) → (line_said line ≡ Ok None) ↔ ((¬ IsNoText line) × IsSkipped (words line)) }
+    ensures fault { (before : List Item) (line : List ℕ) (kind : TextKind) → line_said line ≡ Err kind → IsFirstFault before line kind }
 {}
 
-/// `tape W W ..` reads as its words.
-pub fn tape_lines_are_spelled()
-    ensures { (ws : List (List ℕ)) (tape : List ℕ) → (tape_line ws ≡ Ok tape) ↔ ((ws ≡ map decimal tape) × IsTape tape) }
+/// The reading of a text says of which script it is the text, or where it breaks first, and of what kind the break is.
+pub fn texts_are_read()
+    ensures script { (bytes : List ℕ) (script : Script) → (reading bytes ≡ Ok script) ↔ IsScriptText bytes script }
+    ensures first_break { (bytes : List ℕ) (fault : TextFault) → (reading bytes ≡ Err fault) ↔ FirstBreak bytes fault }
 {}
 
-/// `load ID HEX` reads as its entry, whose value may be spelled in either case. It is in range exactly where its value is as long as a
-/// block and its id is one of the N.
-pub fn load_lines_are_spelled()
-    ensures read { (ws : List (List ℕ)) (entry : Entry) → (load_line ws ≡ Ok entry) ↔ SpellsLoad ws entry }
-    ensures fits { (s : Shape) (entry : Entry) → (entry_fits s entry ≡ Ok tt) ↔ IsEntryOf s entry }
+/// A script that was read keeps all limits.
+pub fn scripts_keep_limits()
+    ensures { (bytes : List ℕ) (script : Script) → reading bytes ≡ Ok script → IsScript script }
 {}
 
-/// `do C read ID` and `do C write ID HEX` read as the client and its operation. They are in range exactly where also the client is at
-/// most 63.
-pub fn do_lines_are_spelled()
-    ensures read { (ws : List (List ℕ)) (client : ℕ) (op : Op) → (do_line ws ≡ Ok (client, op)) ↔ SpellsCall ws client op }
-    ensures fits { (s : Shape) (client : ℕ) (op : Op) → (call_fits s client op ≡ Ok tt) ↔ IsCallOf s client op }
-{}
-
-/// Bytes read as a script exactly where they spell it and it is within its limits.
-pub fn scripts_are_spelled()
-    ensures { (bytes : List ℕ) (script : Script) → (script_of bytes ≡ Some script) ↔ (SpellsScript bytes script × IsScript script) }
-{}
-
-/// A printed line is spelled as a line that is read: words with one space between each two.
+/// A line of words with one space between each two has just these words, and is spelled as lines are printed.
 pub fn printed_lines_are_spelled()
+    ensures read { (ws : List (List ℕ)) → All IsWord ws → words (spelled ws) ≡ ws }
     ensures words { (word numbers : List ℕ) → words_line word numbers ≡ spelled_line (word ∷ map decimal numbers) }
     ensures hex { (word numbers value : List ℕ) → hex_line word numbers value ≡ spelled_line ((word ∷ map decimal numbers) ++ encode_lower value ∷ []) }
 {}

@@ -1,13 +1,21 @@
 //! What a script says.
 
-use tao_base::{Entries, Items, Numbers, Op, Params};
+use tao_base::{Entries, Image, Items, Numbers, Op, Params};
 
 /// A store and what is done with it: its parameters, the key of its tape, the tape's words where the text gives them in place of the
 /// key's, the first values of blocks by rising ids, and the steps.
 #[derive(Debug, Drop)]
 pub struct Script {
     pub params: Params,
+    /// The number of the line `tree`, counted from 1.
+    pub tree_line: u32,
+    /// That of the line `form`, where there is one.
+    pub form_line: Option<u32>,
     pub key: [u8; 32],
+    /// Whether the session is to be sealed when it ends. No script asks for it.
+    pub seal: bool,
+    /// A sealed state that is opened again. No script has one.
+    pub reopen: Option<Image>,
     pub tape: Option<Numbers>,
     pub loads: Entries,
     pub steps: Steps,

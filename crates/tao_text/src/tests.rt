@@ -1,41 +1,57 @@
 use crate::{
-    Script, TextFault, TextKind, What, begin_line, end_line, line_hex, line_words, push_hex,
+    Script, Step, TextFault, TextKind, What, begin_line, end_line, line_hex, line_words, push_hex,
     push_number, push_numbers, push_word, read_script,
 };
 use std::alloc::Global;
 use std::test::Fail;
-use tao_base::{Block, Image, NoMemory, Op};
+use tao_base::{Block, Form, Image, NoMemory, Op};
 
-// the script of three operations, and one with no operations, values of upper case and a value of no load
+// scripts with each kind of line, and the lines of their steps
+static SCRIPTS: [(&str, &[u32]); 4] = [
+    (
+        "tree 2 2 4 2 1\ntape 0 3 2 1 2\nload 0 61616161\ndo 0 read 0\ndo 0 write 0 62626262\ndo 1 read 0\n",
+        &[4, 5, 6],
+    ),
+    ("tree 1 1 4 2 1\ntape 4294967295 0 7\n", &[]),
+    (
+        "tree 2 1 8 1 64\nform turn\nkey 000102030405060708090a0b0c0d0e0f101112131415161718191a1b1c1d1e1f\nload 0 00ff10abcdef9900\na 63 pad\ndo 0 pad\na 1 write 0 0000000000000001\na 2 read 0\nread 4294967295\nread 0 2\ndone 7\nput 1\nput 1 7\nack 0\n",
+        &[5, 6, 7, 8, 9, 10, 11, 12, 13, 14],
+    ),
+    ("tree 1 1 4 1 1\nform 2\nack 1\n", &[3]),
+];
+
 #[test]
 fn scripts(rt: HostRuntime) -> Result<(), Fail> {
-    for (text, lines) in [
-        (
-            "tree 2 2 4 2 1\ntape 0 3 2 1 2\nload 0 61616161\ndo 0 read 0\ndo 0 write 0 62626262\ndo 1 read 0\n",
-            [4, 5, 6].as_slice(),
-        ),
-        ("tree 1 1 4 2 1\ntape 4294967295 0 7\n", &[]),
-        ("tree 16 1 8 1 1\ntape 0\nload 0 00ff10abcdef9900\n", &[]),
-    ] {
+    for (text, lines) in &SCRIPTS {
         let script = read_script(rt.alloc(), text.as_bytes())?;
         let spelled = spelling(rt.alloc(), &script)?;
         assert!(rt; spelled.as_slice() == text.as_bytes(), "at {text}");
-        assert!(rt; script.key == [0; 32]);
         let steps = script.steps.as_slice();
         assert_eq!(rt; steps.len(), lines.len());
-        for (step, line) in steps.iter().zip(lines) {
+        for (step, line) in steps.iter().zip(*lines) {
             assert_eq!(rt; step.line, *line);
         }
     }
     Ok(())
 }
 
-// a script of whole operations as a text
+// a script as a text
 fn spelling(alloc: Global, script: &Script) -> Result<Image, NoMemory> {
     let mut out = Image::new(alloc);
+    spell_header(alloc, &mut out, script)?;
+    for load in script.loads.as_slice() {
+        line_hex(&mut out, "load", &[u64::from(load.id)], &load.value)?;
+    }
+    for step in script.steps.as_slice() {
+        spell_step(&mut out, step)?;
+    }
+    Ok(out)
+}
+
+fn spell_header(alloc: Global, out: &mut Image, script: &Script) -> Result<(), NoMemory> {
     let p = script.params;
     line_words(
-        &mut out,
+        out,
         "tree",
         &[
             u64::from(p.l()),
@@ -45,26 +61,41 @@ fn spelling(alloc: Global, script: &Script) -> Result<Image, NoMemory> {
             u64::from(p.k()),
         ],
     )?;
-    begin_line(&mut out, "tape")?;
+    match p.form() {
+        Form::One => {}
+        Form::Two => out.extend_from_slice(b"form 2\n")?,
+        Form::Turn => out.extend_from_slice(b"form turn\n")?,
+    }
+    if script.key != [0; 32] {
+        line_hex(out, "key", &[], &Block::from_slice(alloc, &script.key)?)?;
+    }
     if let Some(tape) = &script.tape {
+        begin_line(out, "tape")?;
         for word in tape.as_slice() {
-            push_number(&mut out, u64::from(*word))?;
+            push_number(out, u64::from(*word))?;
         }
+        end_line(out)?;
     }
-    end_line(&mut out)?;
-    for load in script.loads.as_slice() {
-        line_hex(&mut out, "load", &[u64::from(load.id)], &load.value)?;
-    }
-    for step in script.steps.as_slice() {
-        if let What::Do(client, op) = &step.what {
-            spell_call(&mut out, *client, op)?;
-        }
-    }
-    Ok(out)
+    Ok(())
 }
 
-fn spell_call(out: &mut Image, client: u32, op: &Op) -> Result<(), NoMemory> {
-    begin_line(out, "do")?;
+fn spell_step(out: &mut Image, step: &Step) -> Result<(), NoMemory> {
+    match &step.what {
+        What::Do(client, op) => spell_call(out, "do", *client, op),
+        What::A(client, op) => spell_call(out, "a", *client, op),
+        What::Read(fetch, None) => line_words(out, "read", &[*fetch]),
+        What::Read(fetch, Some(depth)) => line_words(out, "read", &[*fetch, u64::from(*depth)]),
+        What::Done(fetch) => line_words(out, "done", &[*fetch]),
+        What::Put(version, None) => line_words(out, "put", &[u64::from(*version)]),
+        What::Put(version, Some(node)) => {
+            line_words(out, "put", &[u64::from(*version), u64::from(*node)])
+        }
+        What::Ack(version) => line_words(out, "ack", &[u64::from(*version)]),
+    }
+}
+
+fn spell_call(out: &mut Image, name: &str, client: u32, op: &Op) -> Result<(), NoMemory> {
+    begin_line(out, name)?;
     push_number(out, u64::from(client))?;
     match op {
         Op::Read(id) => {
@@ -81,60 +112,86 @@ fn spell_call(out: &mut Image, client: u32, op: &Op) -> Result<(), NoMemory> {
     end_line(out)
 }
 
-// each text is refused as a whole, whatever is wrong with it
+// comments, blank lines, further spaces, digits of upper case and a last line without its end
 #[test]
-fn refusals(rt: HostRuntime) -> Result<(), Fail> {
-    for text in [
-        "",
-        "\n",
-        "tree 2 2 4 2 1\n",
-        "tape 0 3 2 1 2\n",
-        "tree 2 2 4 2 1\ntape 0 3 2 1 2",
-        "tree 2 2 4 2 1\ntape 0 3  2 1 2\n",
-        " tree 2 2 4 2 1\ntape 0 3 2 1 2\n",
-        "tree 2 2 4 2 1 \ntape 0 3 2 1 2\n",
-        "tree 2 2 4 2 1\ntape 0 3 2\t1 2\n",
-        "tree 2 2 4 2 1\r\ntape 0 3 2 1 2\r\n",
-        "tree 2 2 4 2 1\ntape 0 4294967296 2 1 2\n",
-        "tree 2 2 4 2 1\ntape 0 03 2 1 2\n",
-        "tree 2 2 4 2 1\ntape 0 +3 2 1 2\n",
-        "tree 2 2 4 2 1\ntape 0 3x 2 1 2\n",
-        "tree 2 2 4 2 1\ntape\n",
-        "tree 2 2 4 2 1\ntape 0\n",
-        "tree 2 2 4 2\ntape 0 3 2 1 2\n",
-        "tree 2 2 4 2 1 1\ntape 0 3 2 1 2\n",
-        "tree 2 2 4 2 2\ntape 0 3 2 1 2\n",
-        "tree 17 1 4 1 1\ntape 0 3 2 1 2\n",
-        "tree 2 2 4 2 1\n# a comment\ntape 0 3 2 1 2\n",
-        "tree 2 2 4 2 1\n\ntape 0 3 2 1 2\n",
-        "tree 2 2 4 2 1\ntree 2 2 4 2 1\ntape 0 3 2 1 2\n",
-        "form 1\ntree 2 2 4 2 1\ntape 0 3 2 1 2\n",
-        "tree 2 2 4 2 1\ntape 0 3 2 1 2\ntape 0 3 2 1 2\n",
-        "tree 2 2 4 2 1\ntape 0 3 2 1 2\nload 0 6161616\n",
-        "tree 2 2 4 2 1\ntape 0 3 2 1 2\nload 0 616161616\n",
-        "tree 2 2 4 2 1\ntape 0 3 2 1 2\nload 0 616161\n",
-        "tree 2 2 4 2 1\ntape 0 3 2 1 2\nload 0 6161616g\n",
-        "tree 2 2 4 2 1\ntape 0 3 2 1 2\nload 0\n",
-        "tree 2 2 4 2 1\ntape 0 3 2 1 2\nload 2 61616161\n",
-        "tree 2 2 4 2 1\ntape 0 3 2 1 2\nload 1 61616161\nload 0 61616161\n",
-        "tree 2 2 4 2 1\ntape 0 3 2 1 2\nload 1 61616161\nload 1 61616161\n",
-        "tree 2 2 4 2 1\ntape 0 3 2 1 2\ndo 0 read 0\nload 1 61616161\n",
-        "tree 2 2 4 2 1\ntape 0 3 2 1 2\ndo 0 read 2\n",
-        "tree 2 2 4 2 1\ntape 0 3 2 1 2\ndo 64 read 0\n",
-        "tree 2 2 4 2 1\ntape 0 3 2 1 2\ndo 0 pad\n",
-        "tree 2 2 4 2 1\ntape 0 3 2 1 2\ndo 0 read 0 61616161\n",
-        "tree 2 2 4 2 1\ntape 0 3 2 1 2\ndo 0 write 0\n",
-        "tree 2 2 4 2 1\ntape 0 3 2 1 2\ndo 0 write 0 616161\n",
-        "tree 2 2 4 2 1\ntape 0 3 2 1 2\nDo 0 read 0\n",
-        "tree 2 2 4 2 1\ntape 0 3 2\ndo 0 read 0\ndo 0 read 0\n",
-        "tree 2 2 4 2 1\ntape 0 3 2 1 2\na 0 read 0\n",
-    ] {
+fn loose_text(rt: HostRuntime) -> Result<(), Fail> {
+    let text = " \n#tree\n  tree  1 1 4 1 1\n\n # a\nload 0  00FFabCD\n\ndo 0 read 0 ";
+    let script = read_script(rt.alloc(), text.as_bytes())?;
+    let spelled = spelling(rt.alloc(), &script)?;
+    assert!(rt; spelled.as_slice() == b"tree 1 1 4 1 1\nload 0 00ffabcd\ndo 0 read 0\n".as_slice());
+    assert_eq!(rt; (script.tree_line, script.form_line), (3, None));
+    assert_eq!(rt; (script.seal, script.reopen.is_none()), (false, true));
+    assert_eq!(rt; script.steps.as_slice()[0].line, 8);
+    Ok(())
+}
+
+// texts that break, the line, and the kind
+static BREAKS: [(&str, u32, TextKind); 34] = [
+    ("", 1, TextKind::Order),
+    ("#\n\n", 3, TextKind::Order),
+    ("#", 2, TextKind::Order),
+    ("tree 1 1 4 1 1\n#\u{7f}\n", 2, TextKind::NotText),
+    ("zzz\n\t\n", 1, TextKind::Word),
+    ("tree 1 1 4 1 1\ntree\n", 2, TextKind::Word),
+    ("tree 1 1 4 1 1\ntape\n", 2, TextKind::Word),
+    ("tree 1 1 4 1 1\nform\n", 2, TextKind::Word),
+    ("form 01\n", 1, TextKind::Word),
+    ("seal 1\n", 1, TextKind::Word),
+    ("op read 0\n", 1, TextKind::Word),
+    ("get 0\n", 1, TextKind::Word),
+    ("del 0\n", 1, TextKind::Word),
+    ("tree 1 1 4 1 1\ndo 0 pad 0\n", 2, TextKind::Word),
+    ("tree 1 1 4 1 1\ndo 0 read\n", 2, TextKind::Word),
+    ("tree 1 1 4 1 1\nread 0 0 0\n", 2, TextKind::Word),
+    ("tree 1 1 4 1 1\nack\n", 2, TextKind::Word),
+    ("done +1\n", 1, TextKind::Number),
+    ("do 064 write 9 xx\n", 1, TextKind::Number),
+    ("do 64 write 9 xx\n", 1, TextKind::Hex),
+    ("do 64 write 9 00\n", 1, TextKind::Order),
+    ("tree 1 1 4 1 1\ndo 64 write 9 00\n", 2, TextKind::Length),
+    (
+        "tree 1 1 4 1 1\na 64 write 9 00000000\n",
+        2,
+        TextKind::Range,
+    ),
+    ("tree 16 8 4096 1 1\n", 1, TextKind::Range),
+    ("tree 13 8 4088 1 1\nform 2\n", 2, TextKind::Range),
+    ("tree 13 8 4088 1 1\ntape 0\nform 2\n", 3, TextKind::Range),
+    ("tree 1 1 4 1 1\ntape 0\nform 2\n", 3, TextKind::Order),
+    ("tree 1 1 4 1 1\nform 1\nform 1\n", 3, TextKind::Order),
+    (
+        "tree 1 1 4 1 1\ntape 0\nkey 0000000000000000000000000000000000000000000000000000000000000000\n",
+        3,
+        TextKind::Order,
+    ),
+    (
+        "tree 1 1 4 1 1\nload 0 00000000\ntape 0\n",
+        3,
+        TextKind::Order,
+    ),
+    (
+        "tree 1 1 4 2 1\nload 0 00000000\ntape 0\n",
+        3,
+        TextKind::Order,
+    ),
+    ("tree 1 1 4 2 1\nack 1\ntape 0\n", 3, TextKind::Order),
+    ("tree 1 1 4 2 1\ntape 0\n", 2, TextKind::TapeShort),
+    (
+        "tree 1 1 4 1 1\ntape 0 0\na 0 pad\nread 0\ndo 0 pad\n",
+        5,
+        TextKind::TapeShort,
+    ),
+];
+
+#[test]
+fn breaks(rt: HostRuntime) -> Result<(), Fail> {
+    for (text, line, kind) in &BREAKS {
         let fault = read_script(rt.alloc(), text.as_bytes()).err();
-        let unbuilt = TextFault {
-            line: 0,
-            kind: TextKind::Unbuilt,
+        let wanted = TextFault {
+            line: *line,
+            kind: *kind,
         };
-        assert_eq!(rt; fault, Some(unbuilt), "at {text}");
+        assert_eq!(rt; fault, Some(wanted), "at {text}");
     }
     Ok(())
 }
@@ -176,6 +233,6 @@ fn names_of_faults(rt: HostRuntime) -> Result<(), Fail> {
         format!(in rt.alloc(); "{fault}")?.as_str(),
         "line 3: TapeShort"
     );
-    assert_eq!(rt; TextKind::Unbuilt as u8, 11);
+    assert_eq!(rt; TextKind::Memory as u8, 10);
     Ok(())
 }

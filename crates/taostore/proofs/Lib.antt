@@ -1,5 +1,7 @@
+pub mod Breaks
 pub mod Fronts
 pub mod Plays
 pub mod Telling
 pub mod Transfers
+pub mod Whole
 pub mod WordLemmas

@@ -12,7 +12,7 @@ use Rattle.tao_trace.proofs.WholeLines.{more_lines, each_lines}
 use Rattle.taostore.specs.declared.faults.StreamFault.{StreamFault}
 use Rattle.taostore.specs.declared.faults.StreamFault.TheVariants.{Failed, NoMemory}
 use Rattle.taostore.specs.declared.output.End.TheVariants as ends
-use Rattle.taostore.specs.declared.output.End.TheVariants.{Done, Refused, Unbuilt, SourceFailed}
+use Rattle.taostore.specs.declared.output.End.TheVariants.{Done, Refused, Broken, Unbuilt, SourceFailed}
 use Rattle.taostore.specs.Endings.{end_line, EndsAs, SessionEnds, ScriptEnds, final_array}
 use Rattle.taostore.specs.Output.{PutsAll, PutsPart, Finishes, Tells, TellsLines, session_lines}
 use Rattle.taostore.specs.Playing.{IsPlayed}
@@ -191,7 +191,8 @@ module _ {K : Type 0} (put : K → Option (List ℕ)) (faults : K → ℕ) where
   ends_script a b script session kept result keeps played (Done, text, told, finished) =
       (Done, text, record { session = session; keeps = keeps; played = played; told = told }, finished)
   ends_script a b script session kept result keeps played (Refused, text, told, finished) = absurd told
-  ends_script a b script session kept result keeps played (Unbuilt, text, told, finished) = absurd told
+  ends_script a b script session kept result keeps played (Broken fault, text, told, finished) = absurd told
+  ends_script a b script session kept result keeps played (Unbuilt line, text, told, finished) = absurd told
   ends_script a b script session kept result keeps played (SourceFailed, text, told, finished) = absurd told
   ends_script a b script session kept result keeps played (ends.NoMemory, text, told, finished) =
       (ends.NoMemory, text, inr (record { session = session; keeps = keeps; played = played; told = told }), finished)

@@ -1,42 +1,66 @@
 -- How the commands end: each with a last line and a status, and with what has then become of the source.
-use Rattle.std.specs.Prelude.{◌≡◌, ◌⊎◌, ℕ, ◌+◌, ◌^◌, List, [], ◌∷◌, ◌++◌, take, reverse, codes, Option, Some, None, IfSome}
+use Rattle.std.specs.Prelude.{◌≡◌, ◌⊎◌, ℕ, ◌+◌, ◌^◌, List, [], ◌∷◌, ◌++◌, take, reverse, codes, decimal, Option, Some, None, IfSome}
 use Rattle.std.specs.Option.{option_map}
 use Rattle.std.specs.Io.KnownBytes.{Consumes, IsAtEnd}
 use Rattle.tao_base.specs.Session.{History}
 use Rattle.tao_model.specs.Replies.{array_now}
 use Rattle.tao_model.specs.Transcript.{transcript}
 use Rattle.tao_record.specs.State.{RecordState}
-use Rattle.tao_text.specs.Scripts.{script_of}
+use Rattle.tao_text.specs.Kinds.{kind_name}
+use Rattle.tao_text.specs.Texts.{FirstBreak, IsScriptText}
+use Rattle.tao_text.specs.declared.faults.TextFault.{TextFault}
+use Rattle.tao_text.specs.declared.faults.TextKind.{TextKind}
 use Rattle.tao_trace.specs.WholeLines.{AreFirstLines}
 use Rattle.tao_text.specs.declared.script.Script.{Script}
 use Rattle.tao_base.specs.Causes.{Rose}
 use Rattle.taostore.specs.declared.output.End.{End}
-use Rattle.taostore.specs.declared.output.End.TheVariants.{Done, Refused, Unbuilt, SourceFailed, NoMemory}
+use Rattle.taostore.specs.declared.output.End.TheVariants.{Done, Refused, Broken, Unbuilt, SourceFailed, NoMemory}
 use Rattle.taostore.specs.Input.{TakesFront, TakesInput}
 use Rattle.taostore.specs.Output.{Finishes}
 use Rattle.taostore.specs.Playing.{IsPlayed}
+use Rattle.taostore.specs.Unbuilt.{unbuilt_line}
 
 -- the exit status
 abbrev pub status_of : End → ℕ
 status_of Done = 0
 status_of Refused = 2
-status_of Unbuilt = 3
+status_of (Broken fault) = 3
+status_of (Unbuilt line) = 3
 status_of SourceFailed = 4
 status_of NoMemory = 8
+
+-- the last line of a script that isn't played: the line at which that shows, and why
+abbrev pub break_line : ℕ → List ℕ → List ℕ
+break_line line name = (codes "end 3 " ++ decimal line) ++ (codes " " ++ (name ++ 10 ∷ []))
 
 -- the last line
 abbrev pub end_line : End → List ℕ
 end_line Done = codes "end 0" ++ 10 ∷ []
 end_line Refused = codes "end 2" ++ 10 ∷ []
-end_line Unbuilt = codes "end 3 0 Unbuilt" ++ 10 ∷ []
+end_line (Broken fault) = break_line fault.line (kind_name fault.kind)
+end_line (Unbuilt line) = break_line line (codes "Unbuilt")
 end_line SourceFailed = codes "end 4" ++ 10 ∷ []
 end_line NoMemory = codes "end 8" ++ 10 ∷ []
+
+-- the end of a call whose text wasn't read
+abbrev pub end_of : TextKind → TextFault → End
+end_of TextKind.NotText fault = Broken fault
+end_of TextKind.Word fault = Broken fault
+end_of TextKind.Number fault = Broken fault
+end_of TextKind.Hex fault = Broken fault
+end_of TextKind.Length fault = Broken fault
+end_of TextKind.Range fault = Broken fault
+end_of TextKind.Order fault = Broken fault
+end_of TextKind.TapeShort fault = Broken fault
+end_of TextKind.TooLong fault = Broken fault
+end_of TextKind.Memory fault = NoMemory
 
 -- the ends of a call with refused words, each with its text
 abbrev pub RefusedEnds : End → List ℕ → Type 0
 RefusedEnds Done text = ⊥
 RefusedEnds Refused text = text ≡ end_line Refused
-RefusedEnds Unbuilt text = ⊥
+RefusedEnds (Broken fault) text = ⊥
+RefusedEnds (Unbuilt line) text = ⊥
 RefusedEnds SourceFailed text = ⊥
 RefusedEnds NoMemory text = text ≡ end_line NoMemory
 
@@ -48,7 +72,8 @@ kept_history kept = option_map (λ r. r.history) kept
 abbrev pub SessionEnds : History → List (List ℕ) → End → List ℕ → Type 0
 SessionEnds h blocks Done text = text ≡ transcript h 0 (Some blocks) (end_line Done)
 SessionEnds h blocks Refused text = ⊥
-SessionEnds h blocks Unbuilt text = ⊥
+SessionEnds h blocks (Broken fault) text = ⊥
+SessionEnds h blocks (Unbuilt line) text = ⊥
 SessionEnds h blocks SourceFailed text = ⊥
 SessionEnds h blocks NoMemory text = (lines : List ℕ) × AreFirstLines lines (transcript h 0 (Some blocks) []) × (text ≡ lines ++ end_line NoMemory)
 
@@ -72,33 +97,43 @@ pub record KeepsPart (script : Script) (kept : Option History) (text : List ℕ)
 abbrev pub ScriptEnds : Script → Option History → End → List ℕ → Type 0
 ScriptEnds script kept Done text = KeepsAll script kept Done text
 ScriptEnds script kept Refused text = ⊥
-ScriptEnds script kept Unbuilt text = ⊥
+ScriptEnds script kept (Broken fault) text = ⊥
+ScriptEnds script kept (Unbuilt line) text = ⊥
 ScriptEnds script kept SourceFailed text = ⊥
 ScriptEnds script kept NoMemory text = KeepsPart script kept text ⊎ KeepsAll script kept NoMemory text
 
 module _ {S : Type 0} (left : S → Option (List ℕ)) (faults : S → ℕ) (old new : S) where
-  -- all that the source had left is the script
+  -- all that the source had left is the text of the script
   pub record TakesScript (script : Script) : Type 0 where
     pub bytes : List ℕ
     pub taken : Consumes (left old) (left new) bytes
     pub at_end : IsAtEnd (left new)
     pub unfailed : faults new ≡ faults old
-    pub read : script_of bytes ≡ Some script
+    pub read : IsScriptText bytes script
 
-  -- what the source had left, or the first 2 ^ 24 + 1 bytes of it, is no script
-  pub record TakesNone : Type 0 where
+  -- what the source had left, or the first 2 ^ 24 + 1 bytes of it, is no script, with this first break
+  pub record TakesBroken (fault : TextFault) : Type 0 where
     pub bytes : List ℕ
     pub taken : TakesInput left old new (2 ^ 24 + 1) bytes
     pub unfailed : faults new ≡ faults old
-    pub unread : script_of bytes ≡ None
+    pub broken : FirstBreak bytes fault
+
+  -- what was taken is no script, or one that can't be played yet
+  abbrev pub TakesUnplayed : Type 0
+  TakesUnplayed = ((fault : TextFault) × TakesBroken fault) ⊎ ((script : Script) × (line : ℕ) × TakesScript script × (unbuilt_line script ≡ Some line))
+
+  -- what was taken is a script that can be played
+  abbrev pub TakesPlayed : Script → Type 0
+  TakesPlayed script = TakesScript script × (unbuilt_line script ≡ None)
 
   -- the ends of a play, each with what it has taken and kept and with its text; it ends with 4 only where the source failed
   abbrev pub PlayEnds : Option History → End → List ℕ → Type 0
-  PlayEnds kept Done text = (script : Script) × TakesScript script × ScriptEnds script kept Done text
+  PlayEnds kept Done text = (script : Script) × TakesPlayed script × ScriptEnds script kept Done text
   PlayEnds kept Refused text = ⊥
-  PlayEnds kept Unbuilt text = TakesNone × (kept ≡ None) × (text ≡ end_line Unbuilt)
+  PlayEnds kept (Broken fault) text = TakesBroken fault × (kept ≡ None) × (text ≡ end_line (Broken fault))
+  PlayEnds kept (Unbuilt line) text = ((script : Script) × TakesScript script × (unbuilt_line script ≡ Some line)) × (kept ≡ None) × (text ≡ end_line (Unbuilt line))
   PlayEnds kept SourceFailed text = TakesFront left old new × Rose (faults old) (faults new) × (kept ≡ None) × (text ≡ end_line SourceFailed)
-  PlayEnds kept NoMemory text = TakesFront left old new × (((kept ≡ None) × (text ≡ end_line NoMemory)) ⊎ ((script : Script) × TakesScript script × ScriptEnds script kept NoMemory text))
+  PlayEnds kept NoMemory text = TakesFront left old new × (((kept ≡ None) × (text ≡ end_line NoMemory)) ⊎ ((script : Script) × TakesPlayed script × ScriptEnds script kept NoMemory text))
 
 -- the call has ended in one of these ways, or was about to when its sink failed
 abbrev pub EndsAs : {K : Type 0} → (K → Option (List ℕ)) → (K → ℕ) → K → K → (End → List ℕ → Type 0) → ℕ → Type 0

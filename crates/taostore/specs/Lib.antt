@@ -2,4 +2,5 @@ pub mod Endings
 pub mod Input
 pub mod Output
 pub mod Playing
+pub mod Unbuilt
 pub mod Words

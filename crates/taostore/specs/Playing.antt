@@ -1,11 +1,13 @@
 -- A script that is played on the desk: what it opens, and what its steps leave in the record.
-use Rattle.std.specs.Prelude.{◌≡◌, ℕ, ◌+◌, List, [], ◌∷◌, take, replicate, slice_set, slice_index, fold, unwrap_or, reverse, ⊤}
+use Rattle.std.specs.Prelude.{◌≡◌, ℕ, ◌+◌, List, [], ◌∷◌, take, replicate, slice_set, slice_index, fold, map, reverse, length, Option, Some, None, ⊤}
+use Rattle.std.specs.List.{range_with_len}
 use Rattle.tao_base.specs.declared.storage.Entry.{Entry}
 use Rattle.tao_base.specs.Session.{History}
 use Rattle.tao_text.specs.declared.script.Script.{Script}
 use Rattle.tao_text.specs.declared.script.Step.{Step}
 use Rattle.tao_text.specs.declared.script.What.{What}
 use Rattle.tao_text.specs.declared.script.What.TheVariants.{Do, A, Read, Done, Put, Ack}
+use Rattle.tao_tape.specs.Tapes.{key_word}
 use Rattle.tao_model.specs.Replies.{array_now}
 use Rattle.taostore.specs.declared.playing.Played.{Played}
 use Rattle.taostore.specs.declared.playing.Played.TheVariants.{Whole, Part, Nothing}
@@ -18,8 +20,13 @@ put_load blocks entry = slice_set blocks entry.id entry.value
 abbrev pub first_blocks : ℕ → ℕ → List Entry → List (List ℕ)
 first_blocks n b loads = fold put_load (replicate n (replicate b 0)) loads
 
+-- the words of the text, or those of its key that its operations use
+abbrev pub words_of : Option (List ℕ) → List ℕ → ℕ → List ℕ
+words_of (Some words) key count = words
+words_of None key count = map (key_word key) (range_with_len 0 count)
+
 abbrev pub tape_of : Script → List ℕ
-tape_of script = unwrap_or script.tape []
+tape_of script = words_of script.tape script.key (script.params.n + length script.steps)
 
 -- the record before the first step
 abbrev pub opened : Script → History

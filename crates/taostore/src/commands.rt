@@ -4,7 +4,7 @@ ghost use Rattle.std.specs.Io.KnownBytes.{Keeps};
 ghost use Rattle.tao_base.specs.Causes.{Rose};
 ghost use Rattle.tao_text.specs.declared.script.Script.{Script};
 ghost use Rattle.taostore.specs.Output.{PutsMore};
-ghost use Rattle.taostore.specs.Endings.{EndsAs, PlayEnds, RefusedEnds, TakesScript, TakesNone, kept_history};
+ghost use Rattle.taostore.specs.Endings.{EndsAs, PlayEnds, RefusedEnds, TakesPlayed, TakesUnplayed, kept_history};
 ghost use Rattle.taostore.specs.Words.{AskToPlay, AreRefused};
 
 use crate::output::{End, finish};
@@ -41,9 +41,9 @@ pub fn taostore<S: Source, K: Sink>(
     // the sink.
     ensures answers { (result ≡ 0) ⊎ ((result ≡ 2) ⊎ ((result ≡ 3) ⊎ ((result ≡ 4) ⊎ ((result ≡ 5) ⊎ (result ≡ 8))))) }
     ensures done_cause { result ≡ 0
-        → AskToPlay (map string_bytes words.now) × ((script : Script) × TakesScript S.left S.faults source.old source.new script) }
+        → AskToPlay (map string_bytes words.now) × ((script : Script) × TakesPlayed S.left S.faults source.old source.new script) }
     ensures refused_cause { result ≡ 2 → AreRefused (map string_bytes words.now) }
-    ensures broken_cause { result ≡ 3 → AskToPlay (map string_bytes words.now) × TakesNone S.left S.faults source.old source.new }
+    ensures broken_cause { result ≡ 3 → AskToPlay (map string_bytes words.now) × TakesUnplayed S.left S.faults source.old source.new }
     ensures source_cause { result ≡ 4 → Rose (S.faults source.old) (S.faults source.new) }
     ensures sink_cause { result ≡ 5 → Rose (K.faults sink.old) (K.faults sink.new) }
     ensures refused_answer { AreRefused (map string_bytes words.now) → ¬ Rose (K.faults sink.old) (K.faults sink.new)

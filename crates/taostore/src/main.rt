@@ -12,6 +12,7 @@ mod standard;
 #[cfg(test)]
 mod tests;
 mod transcript;
+mod unbuilt;
 mod writing;
 
 pub use commands::{Kept, taostore};

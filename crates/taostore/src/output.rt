@@ -1,24 +1,28 @@
 //! The end of an output: its last line, and the status that goes with it.
-ghost use Rattle.std.specs.Prelude.{◌≡◌, ◌++◌};
-ghost use Rattle.taostore.specs.Output.{Finishes};
-ghost use Rattle.taostore.specs.Endings.{status_of, end_line};
+ghost use Rattle.std.specs.Prelude.{◌≡◌, ◌++◌, OnOk, OnErr};
+ghost use Rattle.taostore.specs.Output.{Finishes, PutsAll, PutsPart};
+ghost use Rattle.taostore.specs.Endings.{break_line, end_line, status_of};
 
-use crate::writing::put_both;
-use tao_base::Sink;
+use crate::writing::{put_all, put_five};
+use itoa::Buffer;
+use tao_base::{Failed, Sink};
+use tao_text::TextFault;
 
-/// How a call ends where its sink takes all. The number is the exit status.
+/// How a call ends where its sink takes all.
 #[derive(Clone, Copy, Debug, PartialEq, Eq)]
 pub enum End {
     /// The whole script was played.
-    Done = 0,
+    Done,
     /// The words ask for nothing that the program does.
-    Refused = 2,
-    /// The source holds no script that can be read yet.
-    Unbuilt = 3,
+    Refused,
+    /// The source holds no script: its first break.
+    Broken(TextFault),
+    /// The script has something that can't be played yet, first on this line.
+    Unbuilt(u32),
     /// The source has failed.
-    SourceFailed = 4,
+    SourceFailed,
     /// Memory ran out.
-    NoMemory = 8,
+    NoMemory,
 }
 
 /// The status of a call whose sink has failed. It has no end line.
@@ -29,19 +33,12 @@ impl End {
     pub fn status(self) -> u8
         ensures { result ≡ status_of self }
     {
-        self as u8
-    }
-
-    /// The last line of the output, with its end.
-    pub fn line(self) -> &'static [u8]
-        ensures { result.now ≡ end_line self }
-    {
         match self {
-            End::Done => b"end 0\n",
-            End::Refused => b"end 2\n",
-            End::Unbuilt => b"end 3 0 Unbuilt\n",
-            End::SourceFailed => b"end 4\n",
-            End::NoMemory => b"end 8\n",
+            End::Done => 0,
+            End::Refused => 2,
+            End::Broken(_) | End::Unbuilt(_) => 3,
+            End::SourceFailed => 4,
+            End::NoMemory => 8,
         }
     }
 }
@@ -57,8 +54,42 @@ pub fn finish<K: Sink>(sink: &mut K, end: End) -> u8
 pub fn finish_text<K: Sink>(sink: &mut K, text: &[u8], end: End) -> u8
     ensures { Finishes K.put K.faults sink.old sink.new (status_of end) (text.now ++ end_line end) result }
 {
-    match put_both(sink, text, end.line()) {
+    match put_text_and_end(sink, text, end) {
         Ok(()) => end.status(),
         Err(_) => SINK_FAILED,
     }
+}
+
+#[tactic(auto, using(crate::proofs::Telling::puts_then, crate::proofs::Telling::part_of_more, crate::proofs::Telling::part_then))]
+fn put_text_and_end<K: Sink>(sink: &mut K, text: &[u8], end: End) -> Result<(), Failed>
+    ensures ok { OnOk result (PutsAll K.put K.faults sink.old sink.new (text.now ++ end_line end)) }
+    ensures err { OnErr result (PutsPart K.put K.faults sink.old sink.new (text.now ++ end_line end)) }
+{
+    put_all(sink, text)?;
+    put_end(sink, end)
+}
+
+// The last line of the output, with its end. It takes no memory.
+fn put_end<K: Sink>(sink: &mut K, end: End) -> Result<(), Failed>
+    ensures ok { OnOk result (PutsAll K.put K.faults sink.old sink.new (end_line end)) }
+    ensures err { OnErr result (PutsPart K.put K.faults sink.old sink.new (end_line end)) }
+{
+    match end {
+        End::Done => put_all(sink, b"end 0\n"),
+        End::Refused => put_all(sink, b"end 2\n"),
+        End::Broken(fault) => put_break(sink, fault.line, fault.kind.name()),
+        End::Unbuilt(line) => put_break(sink, line, "Unbuilt"),
+        End::SourceFailed => put_all(sink, b"end 4\n"),
+        End::NoMemory => put_all(sink, b"end 8\n"),
+    }
+}
+
+// The end line of a script that isn't played: the number of a line, and a name.
+fn put_break<K: Sink>(sink: &mut K, line: u32, name: &str) -> Result<(), Failed>
+    ensures ok { OnOk result (PutsAll K.put K.faults sink.old sink.new (break_line line name.now)) }
+    ensures err { OnErr result (PutsPart K.put K.faults sink.old sink.new (break_line line name.now)) }
+{
+    let mut digits = Buffer::new();
+    let number = digits.format(line).as_bytes();
+    put_five(sink, b"end 3 ", number, b" ", name.as_bytes(), b"\n")
 }

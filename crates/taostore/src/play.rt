@@ -1,10 +1,11 @@
 //! The command `play`, which plays a script.
-ghost use Rattle.std.specs.Prelude.{◌≡◌, ◌⊎◌, ◌^◌, ◌+◌, None, IsNone, IsSome, IfOk, IfErr};
+ghost use Rattle.std.specs.Prelude.{◌≡◌, ◌⊎◌, ◌^◌, ◌+◌, None, IsNone, IfOk, IfErr};
 ghost use Rattle.tao_base.specs.Causes.{Rose};
-ghost use Rattle.tao_text.specs.WholeScripts.{IsScript};
+ghost use Rattle.tao_text.specs.Texts.{IsScript};
 ghost use Rattle.tao_text.specs.declared.script.Script.{Script};
 ghost use Rattle.taostore.specs.Output.{PutsMore};
-ghost use Rattle.taostore.specs.Endings.{EndsAs, PlayEnds, ScriptEnds, TakesScript, TakesNone, kept_history, end_line};
+ghost use Rattle.taostore.specs.Endings.{EndsAs, PlayEnds, ScriptEnds, TakesPlayed, TakesUnplayed, kept_history, end_line, end_of};
+ghost use Rattle.taostore.specs.Unbuilt.{IsPlayable};
 
 use crate::commands::Kept;
 use crate::faults::StreamFault;
@@ -12,9 +13,10 @@ use crate::output::{End, finish};
 use crate::playing::{Played, play};
 use crate::reading::take_all;
 use crate::transcript::tell_session;
+use crate::unbuilt::unbuilt_line;
 use std::alloc::Global;
 use tao_base::{Sink, Source};
-use tao_text::{Script, TextKind, read_script};
+use tao_text::{Script, TextFault, TextKind, read_script};
 
 /// The bytes of the longest script.
 const MAX_SCRIPT: usize = 1 << 24;
@@ -34,8 +36,8 @@ pub fn play_top<S: Source, K: Sink>(
 
     // Each answer has its cause, and each cause its answer where memory is left: the source first, then the grammar, then the sink.
     ensures answers { (result ≡ 0) ⊎ ((result ≡ 3) ⊎ ((result ≡ 4) ⊎ ((result ≡ 5) ⊎ (result ≡ 8)))) }
-    ensures done_cause { result ≡ 0 → (script : Script) × TakesScript S.left S.faults source.old source.new script }
-    ensures broken_cause { result ≡ 3 → TakesNone S.left S.faults source.old source.new }
+    ensures done_cause { result ≡ 0 → (script : Script) × TakesPlayed S.left S.faults source.old source.new script }
+    ensures broken_cause { result ≡ 3 → TakesUnplayed S.left S.faults source.old source.new }
     ensures source_cause { result ≡ 4 → Rose (S.faults source.old) (S.faults source.new) }
     ensures sink_cause { result ≡ 5 → Rose (K.faults sink.old) (K.faults sink.new) }
     ensures answer { ¬ Rose (S.faults source.old) (S.faults source.new) → ¬ Rose (K.faults sink.old) (K.faults sink.new)
@@ -48,11 +50,12 @@ pub fn play_top<S: Source, K: Sink>(
     }
 }
 
+#[tactic(auto, using(crate::proofs::Breaks::ends_unread))]
 // The script that the source has left.
 fn take_script<S: Source>(alloc: Global, source: &mut S) -> Result<Script, End>
-    ensures taken { IfOk result (TakesScript S.left S.faults source.old source.new) }
+    ensures taken { IfOk result (TakesPlayed S.left S.faults source.old source.new) }
     ensures limits { IfOk result IsScript }
-    ensures tape { IfOk result (λ script. IsSome script.tape) }
+    ensures playable { IfOk result IsPlayable }
     ensures err { IfErr result (λ end. PlayEnds S.left S.faults source.old source.new None end (end_line end)) }
 {
     let bytes = match take_all(alloc, source, MAX_SCRIPT + 1) {
@@ -60,12 +63,23 @@ fn take_script<S: Source>(alloc: Global, source: &mut S) -> Result<Script, End>
         Err(StreamFault::Failed) => return Err(End::SourceFailed),
         Err(StreamFault::NoMemory) => return Err(End::NoMemory),
     };
-    match read_script(alloc, bytes.as_slice()) {
-        Ok(script) => Ok(script),
-        Err(fault) => Err(match fault.kind {
-            TextKind::Memory => End::NoMemory,
-            _ => End::Unbuilt,
-        }),
+    let script = match read_script(alloc, bytes.as_slice()) {
+        Ok(script) => script,
+        Err(fault) => return Err(end_of(fault)),
+    };
+    match unbuilt_line(&script) {
+        Some(line) => Err(End::Unbuilt(line)),
+        None => Ok(script),
+    }
+}
+
+// How a call ends whose text wasn't read.
+fn end_of(fault: TextFault) -> End
+    ensures { result ≡ end_of fault.kind fault }
+{
+    match fault.kind {
+        TextKind::Memory => End::NoMemory,
+        _ => End::Broken(fault),
     }
 }
 
@@ -73,7 +87,7 @@ fn take_script<S: Source>(alloc: Global, source: &mut S) -> Result<Script, End>
 fn play_script<K: Sink>(alloc: Global, script: Script, sink: &mut K, kept: &mut Kept) -> u8
     requires none { IsNone kept.old.history }
     requires script { IsScript script }
-    requires tape { IsSome script.tape }
+    requires playable { IsPlayable script }
     ensures { EndsAs K.put K.faults sink.old sink.new (ScriptEnds script (kept_history kept.new.history)) result }
 {
     match play(alloc, script) {

@@ -1,16 +1,20 @@
 //! Playing a script on the desk.
-ghost use Rattle.std.specs.Prelude.{◌≡◌, ℕ, ◌+◌, ◌<◌, ◌≤◌, List, length, take, replicate, reverse, fold, unwrap_or, Some, IsSome, IfOk, IfSome, OnOk, OnErr, All, slice_index, drop};
+ghost use Rattle.std.specs.Prelude.{◌≡◌, ℕ, ◌+◌, ◌<◌, ◌≤◌, List, ◌-◌, ◌^◌, length, take, replicate, reverse, fold, map, IfOk, OnOk, OnErr, All, IsTrue};
+ghost use Rattle.std.specs.List.{range_with_len};
 ghost use Rattle.tao_base.specs.Limits.{session_limit};
 ghost use Rattle.tao_model.specs.Replies.{array_now};
-ghost use Rattle.tao_text.specs.WholeScripts.{IsScript, IsEntryOf, IsStepOf};
+ghost use Rattle.tao_tape.specs.Tapes.{key_word};
+ghost use Rattle.tao_text.specs.Texts.{IsScript, IsEntryOf, IsStepOf};
 ghost use Rattle.tao_desk.specs.Whole.{words_left, arrivals_of, started, IsSound};
-ghost use Rattle.taostore.specs.Playing.{first_blocks, put_load, PlaysStep, PlaysSteps, PlaysScript, Closes};
+ghost use Rattle.taostore.specs.Playing.{first_blocks, put_load, tape_of, words_of, PlaysStep, PlaysSteps, PlaysScript, Closes};
+ghost use Rattle.taostore.specs.Unbuilt.{IsPlayable, is_whole};
 
 use std::alloc::Global;
 use tao_base::{Block, Blocks, Entry, NoMemory, Numbers, Op, Params};
 use tao_desk::{ArriveFault, Desk};
 use tao_record::Record;
-use tao_text::{Script, Step, What};
+use tao_tape::{KeyTape, Tape};
+use tao_text::{Script, Step, Steps, What};
 
 /// What playing came to.
 #[derive(Debug, Drop)]
@@ -26,6 +30,7 @@ pub enum Played {
 // One step. It changes nothing where memory runs out.
 fn play_step(alloc: Global, desk: &mut Desk, step: &Step) -> Result<(), NoMemory>
     requires step { IsStepOf desk.old.history.opening.shape step.now.what }
+    requires whole { IsTrue (is_whole step.now.what) }
     requires word { 0 < words_left desk.old }
     requires room { arrivals_of desk.old.history < session_limit desk.old.history.opening.shape }
     requires sound { IsSound desk.old.history }
@@ -100,6 +105,7 @@ fn zero_block(alloc: Global, b: u32) -> Result<Block, NoMemory>
 // The steps one after another, until memory runs out.
 fn play_steps(alloc: Global, desk: &mut Desk, steps: &[Step]) -> Result<(), NoMemory>
     requires steps { All (λ step. IsStepOf desk.old.history.opening.shape step.what) steps.now }
+    requires whole { All (λ step. IsTrue (is_whole step.what)) steps.now }
     requires words { length steps.now ≤ words_left desk.old }
     requires room { arrivals_of desk.old.history + length steps.now ≤ session_limit desk.old.history.opening.shape }
     requires sound { IsSound desk.old.history }
@@ -141,22 +147,67 @@ fn close(alloc: Global, desk: Desk) -> Played
 /// Plays all steps of a script, or as far as memory lasts.
 pub fn play(alloc: Global, script: Script) -> Played
     requires script { IsScript script }
-    requires tape { IsSome script.tape }
+    requires playable { IsPlayable script }
     ensures { PlaysScript script result }
 {
-    let Script {
-        params,
-        key: _,
-        tape,
-        loads,
-        steps,
-    } = script;
-    let Some(tape) = tape else { unreachable!() };
-    let Ok(mut desk) = open(alloc, params, tape, loads.as_slice()) else {
+    let Ok((mut desk, steps)) = open_script(alloc, script) else {
         return Played::Nothing;
     };
     match play_steps(alloc, &mut desk, steps.as_slice()) {
         Ok(()) => close(alloc, desk),
         Err(NoMemory) => Played::Part(desk.into_history()),
     }
+}
+
+#[tactic(auto, using(crate::proofs::Whole::tape_enough))]
+// A desk for the script, and its steps.
+fn open_script(alloc: Global, script: Script) -> Result<(Desk, Steps), NoMemory>
+    requires script { IsScript script }
+    requires playable { IsPlayable script }
+    ensures steps { IfOk result (λ r. r.1 ≡ script.steps) }
+    ensures state { IfOk result (λ r. r.0 ≡ started script.params (tape_of script) (first_blocks script.params.n script.params.b script.loads)) }
+    ensures sound { IfOk result (λ r. IsSound r.0.history) }
+    ensures words { IfOk result (λ r. length script.steps ≤ words_left r.0) }
+    ensures count { IfOk result (λ r. arrivals_of r.0.history ≡ 0) }
+{
+    let Script {
+        params,
+        key,
+        tape,
+        loads,
+        steps,
+        ..
+    } = script;
+    let count = params.n() as usize + steps.as_slice().len();
+    let words = tape_words(alloc, tape, key, count)?;
+    let desk = open(alloc, params, words, loads.as_slice())?;
+    Ok((desk, steps))
+}
+
+// The words of the tape that the text has, or so many of its key.
+fn tape_words(
+    alloc: Global,
+    tape: Option<Numbers>,
+    key: [u8; 32],
+    count: usize,
+) -> Result<Numbers, NoMemory>
+    requires { count < 2 ^ 64 - 1 }
+    ensures { IfOk result (λ words. words ≡ words_of tape key count) }
+{
+    match tape {
+        Some(words) => Ok(words),
+        None => key_words(alloc, key, count),
+    }
+}
+
+fn key_words(alloc: Global, key: [u8; 32], count: usize) -> Result<Numbers, NoMemory>
+    requires { count < 2 ^ 64 - 1 }
+    ensures { IfOk result (λ words. words ≡ map (key_word key) (range_with_len 0 count)) }
+{
+    let mut tape = KeyTape::new(key);
+    let mut words = Numbers::new(alloc);
+    for _ in 0..count {
+        words.push(tape.next())?;
+    }
+    Ok(words)
 }

@@ -29,6 +29,32 @@ pub fn put_both<K: Sink>(sink: &mut K, first: &[u8], second: &[u8]) -> Result<()
     put_all(sink, second)
 }
 
+/// Writes five texts.
+#[tactic(auto, using(crate::proofs::Telling::puts_then, crate::proofs::Telling::part_of_more, crate::proofs::Telling::part_then))]
+pub fn put_five<K: Sink>(
+    sink: &mut K,
+    first: &[u8],
+    second: &[u8],
+    third: &[u8],
+    fourth: &[u8],
+    fifth: &[u8],
+) -> Result<(), Failed>
+    ensures ok { OnOk result (PutsAll K.put K.faults sink.old sink.new ((first.now ++ second.now) ++ (third.now ++ (fourth.now ++ fifth.now)))) }
+    ensures err { OnErr result (PutsPart K.put K.faults sink.old sink.new ((first.now ++ second.now) ++ (third.now ++ (fourth.now ++ fifth.now)))) }
+{
+    put_both(sink, first, second)?;
+    put_three(sink, third, fourth, fifth)
+}
+
+#[tactic(auto, using(crate::proofs::Telling::puts_then, crate::proofs::Telling::part_of_more, crate::proofs::Telling::part_then))]
+fn put_three<K: Sink>(sink: &mut K, first: &[u8], second: &[u8], third: &[u8]) -> Result<(), Failed>
+    ensures ok { OnOk result (PutsAll K.put K.faults sink.old sink.new (first.now ++ (second.now ++ third.now))) }
+    ensures err { OnErr result (PutsPart K.put K.faults sink.old sink.new (first.now ++ (second.now ++ third.now))) }
+{
+    put_all(sink, first)?;
+    put_both(sink, second, third)
+}
+
 /// Writes the text that waits, where it has become long.
 pub fn put_waiting<K: Sink>(sink: &mut K, waiting: &mut Image) -> Result<(), Failed>
     ensures ok { OnOk result (Tells K.put K.faults sink.old sink.new waiting.old waiting.new) }

@@ -1,0 +1,67 @@
+-- The forms that a line can have, by its words.
+use Rattle.std.specs.Prelude.{◌≡◌, ℕ, List, [], ◌∷◌, codes, ⊤}
+
+-- a place of a line form
+pub data Part : Type 0 where
+  -- just this word
+  Fixed : List ℕ → Part
+  -- a number
+  ANumber : Part
+  -- bytes in hex
+  AValue : Part
+  -- numbers to the end of the line, one or more
+  TheNumbers : Part
+
+-- all line forms
+unfoldable pub line_forms : List (List Part)
+line_forms =
+    (Fixed (codes "tree") ∷ ANumber ∷ ANumber ∷ ANumber ∷ ANumber ∷ ANumber ∷ [])
+    ∷ (Fixed (codes "form") ∷ Fixed (codes "1") ∷ [])
+    ∷ (Fixed (codes "form") ∷ Fixed (codes "2") ∷ [])
+    ∷ (Fixed (codes "form") ∷ Fixed (codes "turn") ∷ [])
+    ∷ (Fixed (codes "key") ∷ AValue ∷ [])
+    ∷ (Fixed (codes "seal") ∷ [])
+    ∷ (Fixed (codes "reopen") ∷ AValue ∷ [])
+    ∷ (Fixed (codes "tape") ∷ TheNumbers ∷ [])
+    ∷ (Fixed (codes "load") ∷ ANumber ∷ AValue ∷ [])
+    ∷ (Fixed (codes "do") ∷ ANumber ∷ Fixed (codes "read") ∷ ANumber ∷ [])
+    ∷ (Fixed (codes "do") ∷ ANumber ∷ Fixed (codes "write") ∷ ANumber ∷ AValue ∷ [])
+    ∷ (Fixed (codes "do") ∷ ANumber ∷ Fixed (codes "pad") ∷ [])
+    ∷ (Fixed (codes "a") ∷ ANumber ∷ Fixed (codes "read") ∷ ANumber ∷ [])
+    ∷ (Fixed (codes "a") ∷ ANumber ∷ Fixed (codes "write") ∷ ANumber ∷ AValue ∷ [])
+    ∷ (Fixed (codes "a") ∷ ANumber ∷ Fixed (codes "pad") ∷ [])
+    ∷ (Fixed (codes "read") ∷ ANumber ∷ [])
+    ∷ (Fixed (codes "read") ∷ ANumber ∷ ANumber ∷ [])
+    ∷ (Fixed (codes "done") ∷ ANumber ∷ [])
+    ∷ (Fixed (codes "put") ∷ ANumber ∷ [])
+    ∷ (Fixed (codes "put") ∷ ANumber ∷ ANumber ∷ [])
+    ∷ (Fixed (codes "ack") ∷ ANumber ∷ [])
+    ∷ []
+
+-- the words are as many as the form has places, and its fixed words stand at theirs
+abbrev pub IsOfForm : List (List ℕ) → List Part → Type 0
+IsOfForm [] [] = ⊤
+IsOfForm [] (part ∷ parts) = ⊥
+IsOfForm (word ∷ words) [] = ⊥
+IsOfForm (word ∷ words) (Fixed fixed ∷ parts) = (word ≡ fixed) × IsOfForm words parts
+IsOfForm (word ∷ words) (ANumber ∷ parts) = IsOfForm words parts
+IsOfForm (word ∷ words) (AValue ∷ parts) = IsOfForm words parts
+IsOfForm (word ∷ words) (TheNumbers ∷ parts) = ⊤
+
+-- the words at the places of numbers
+abbrev pub numbers_in : List Part → List (List ℕ) → List (List ℕ)
+numbers_in [] words = []
+numbers_in (part ∷ parts) [] = []
+numbers_in (Fixed fixed ∷ parts) (word ∷ words) = numbers_in parts words
+numbers_in (ANumber ∷ parts) (word ∷ words) = word ∷ numbers_in parts words
+numbers_in (AValue ∷ parts) (word ∷ words) = numbers_in parts words
+numbers_in (TheNumbers ∷ parts) (word ∷ words) = word ∷ words
+
+-- the words at the places of values
+abbrev pub values_in : List Part → List (List ℕ) → List (List ℕ)
+values_in [] words = []
+values_in (part ∷ parts) [] = []
+values_in (Fixed fixed ∷ parts) (word ∷ words) = values_in parts words
+values_in (ANumber ∷ parts) (word ∷ words) = values_in parts words
+values_in (AValue ∷ parts) (word ∷ words) = word ∷ values_in parts words
+values_in (TheNumbers ∷ parts) (word ∷ words) = []

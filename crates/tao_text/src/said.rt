@@ -1,0 +1,25 @@
+//! What one line says, whatever stands before it.
+
+use crate::script::What;
+use tao_base::{Block, Entry, Form, Image, Numbers};
+
+/// A line that says something, by its first word.
+#[derive(Debug, Drop)]
+pub(crate) enum Said {
+    /// `tree L Z B N k`
+    Tree(u32, u32, u32, u32, u32),
+    /// `form 1`, `form 2` or `form turn`
+    Form(Form),
+    /// `key HEX`
+    Key(Block),
+    /// `seal`
+    Seal,
+    /// `reopen HEX`
+    Reopen(Image),
+    /// `tape W W ..`
+    Tape(Numbers),
+    /// `load ID HEX`
+    Load(Entry),
+    /// A line `do`, `a`, `read`, `done`, `put` or `ack`.
+    Step(What),
+}
