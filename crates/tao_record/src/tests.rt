@@ -76,18 +76,18 @@ fn opened(alloc: Global, p: &Params) -> Result<Record, NoMemory>
 }
 
 // Adds an event of each kind, the Fault when all spare is used.
-fn fill(record: &mut Record, path: &[Bucket]) -> Result<(), NoMemory>
-    requires events { record.old.history.events ≡ [] }
-    requires done { FitDone record.old.history.opening.shape path.now }
-    requires issue { FitIssue record.old.history.opening.shape path.now }
+fn fill(session: &mut Record, path: &[Bucket]) -> Result<(), NoMemory>
+    requires events { session.old.history.events ≡ [] }
+    requires done { FitDone session.old.history.opening.shape path.now }
+    requires issue { FitIssue session.old.history.opening.shape path.now }
 {
-    record.reserve(1, 0, 1)?;
-    record.reserve(0, 1, 2)?;
-    record.add_arrive(10, Op::Read(0), 11);
-    record.add_done(12, path);
-    record.add_issue(13, 14, path);
-    record.add_acked(15);
-    record.add_fault(Cause::Link { link: 16 });
+    session.reserve(1, 0, 1)?;
+    session.reserve(0, 1, 2)?;
+    session.add_arrive(10, Op::Read(0), 11);
+    session.add_done(12, path);
+    session.add_issue(13, 14, path);
+    session.add_acked(15);
+    session.add_fault(Cause::Link { link: 16 });
     Ok(())
 }
 

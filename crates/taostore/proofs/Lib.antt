@@ -1,5 +1,6 @@
 pub mod Breaks
 pub mod Fronts
+pub mod Inputs
 pub mod Plays
 pub mod Telling
 pub mod Transfers

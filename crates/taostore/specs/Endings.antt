@@ -135,6 +135,15 @@ module _ {S : Type 0} (left : S → Option (List ℕ)) (faults : S → ℕ) (old
   PlayEnds kept SourceFailed text = TakesFront left old new × Rose (faults old) (faults new) × (kept ≡ None) × (text ≡ end_line SourceFailed)
   PlayEnds kept NoMemory text = TakesFront left old new × (((kept ≡ None) × (text ≡ end_line NoMemory)) ⊎ ((script : Script) × TakesPlayed script × ScriptEnds script kept NoMemory text))
 
+-- what the source holds is the text of this script, and it can be played
+abbrev pub HoldsPlayed : {S : Type 0} → (S → Option (List ℕ)) → S → Script → Type 0
+HoldsPlayed left source script = (bytes : List ℕ) × (left source ≡ Some bytes) × IsScriptText bytes script × (unbuilt_line script ≡ None)
+
+-- what the source holds is no script, or the text of one that can't be played yet
+abbrev pub HoldsUnplayed : {S : Type 0} → (S → Option (List ℕ)) → S → Type 0
+HoldsUnplayed left source = (bytes : List ℕ) × (left source ≡ Some bytes)
+    × (((fault : TextFault) × FirstBreak bytes fault) ⊎ ((script : Script) × (line : ℕ) × IsScriptText bytes script × (unbuilt_line script ≡ Some line)))
+
 -- the call has ended in one of these ways, or was about to when its sink failed
 abbrev pub EndsAs : {K : Type 0} → (K → Option (List ℕ)) → (K → ℕ) → K → K → (End → List ℕ → Type 0) → ℕ → Type 0
 EndsAs put faults old new Ends result =

@@ -4,7 +4,7 @@ ghost use Rattle.std.specs.Io.KnownBytes.{Keeps};
 ghost use Rattle.tao_base.specs.Causes.{Rose};
 ghost use Rattle.tao_text.specs.declared.script.Script.{Script};
 ghost use Rattle.taostore.specs.Output.{PutsMore};
-ghost use Rattle.taostore.specs.Endings.{EndsAs, PlayEnds, RefusedEnds, TakesPlayed, TakesUnplayed, kept_history};
+ghost use Rattle.taostore.specs.Endings.{EndsAs, PlayEnds, RefusedEnds, HoldsPlayed, HoldsUnplayed, TakesPlayed, TakesUnplayed, kept_history};
 ghost use Rattle.taostore.specs.Words.{AskToPlay, AreRefused};
 
 use crate::output::{End, finish};
@@ -16,6 +16,7 @@ use tao_record::Record;
 /// What a command leaves beside its output: the record of the session that ran.
 #[derive(Debug, Drop)]
 pub struct Kept {
+    /// It is there wherever a session was opened, also where memory ran out or the sink failed.
     pub history: Option<Record>,
 }
 
@@ -51,6 +52,16 @@ pub fn taostore<S: Source, K: Sink>(
     ensures play_answer { AskToPlay (map string_bytes words.now)
         → ¬ Rose (S.faults source.old) (S.faults source.new) → ¬ Rose (K.faults sink.old) (K.faults sink.new)
         → (result ≡ 0) ⊎ ((result ≡ 3) ⊎ (result ≡ 8)) }
+    ensures source_answer { AskToPlay (map string_bytes words.now)
+        → ¬ (S.faults source.new ≡ S.faults source.old) → ¬ Rose (K.faults sink.old) (K.faults sink.new)
+        → (result ≡ 4) ⊎ (result ≡ 8) }
+    ensures unplayed_answer { AskToPlay (map string_bytes words.now) → HoldsUnplayed S.left source.old
+        → ¬ Rose (S.faults source.old) (S.faults source.new) → ¬ Rose (K.faults sink.old) (K.faults sink.new)
+        → (result ≡ 3) ⊎ (result ≡ 8) }
+    ensures played_answer { AskToPlay (map string_bytes words.now) → (script : Script) → HoldsPlayed S.left source.old script
+        → ¬ Rose (S.faults source.old) (S.faults source.new) → ¬ Rose (K.faults sink.old) (K.faults sink.new)
+        → (result ≡ 0) ⊎ (result ≡ 8) }
+    ensures sink_answer { ¬ (K.faults sink.new ≡ K.faults sink.old) → result ≡ 5 }
     ensures unfailed { (result ≡ 0) ⊎ ((result ≡ 2) ⊎ (result ≡ 3))
         → (S.faults source.new ≡ S.faults source.old) × (K.faults sink.new ≡ K.faults sink.old) }
 {

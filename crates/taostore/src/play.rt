@@ -4,7 +4,7 @@ ghost use Rattle.tao_base.specs.Causes.{Rose};
 ghost use Rattle.tao_text.specs.Texts.{IsScript};
 ghost use Rattle.tao_text.specs.declared.script.Script.{Script};
 ghost use Rattle.taostore.specs.Output.{PutsMore};
-ghost use Rattle.taostore.specs.Endings.{EndsAs, PlayEnds, ScriptEnds, TakesPlayed, TakesUnplayed, kept_history, end_line, end_of};
+ghost use Rattle.taostore.specs.Endings.{EndsAs, PlayEnds, ScriptEnds, HoldsPlayed, HoldsUnplayed, TakesPlayed, TakesUnplayed, kept_history, end_line, end_of};
 ghost use Rattle.taostore.specs.Unbuilt.{IsPlayable};
 
 use crate::commands::Kept;
@@ -21,6 +21,7 @@ use tao_text::{Script, TextFault, TextKind, read_script};
 /// The bytes of the longest script.
 const MAX_SCRIPT: usize = 1 << 24;
 
+#[tactic(auto, using(crate::proofs::Inputs::held_is_read, crate::proofs::Inputs::held_is_unread))]
 /// Takes a script from the source and plays it, writes its transcript, and answers the exit status. The record is kept. Where memory runs
 /// out, the end line for that stands behind whole lines of the transcript; before all was played there are none.
 pub fn play_top<S: Source, K: Sink>(
@@ -42,6 +43,15 @@ pub fn play_top<S: Source, K: Sink>(
     ensures sink_cause { result ≡ 5 → Rose (K.faults sink.old) (K.faults sink.new) }
     ensures answer { ¬ Rose (S.faults source.old) (S.faults source.new) → ¬ Rose (K.faults sink.old) (K.faults sink.new)
         → (result ≡ 0) ⊎ ((result ≡ 3) ⊎ (result ≡ 8)) }
+    ensures source_answer { ¬ (S.faults source.new ≡ S.faults source.old) → ¬ Rose (K.faults sink.old) (K.faults sink.new)
+        → (result ≡ 4) ⊎ (result ≡ 8) }
+    ensures unplayed_answer { HoldsUnplayed S.left source.old
+        → ¬ Rose (S.faults source.old) (S.faults source.new) → ¬ Rose (K.faults sink.old) (K.faults sink.new)
+        → (result ≡ 3) ⊎ (result ≡ 8) }
+    ensures played_answer { (script : Script) → HoldsPlayed S.left source.old script
+        → ¬ Rose (S.faults source.old) (S.faults source.new) → ¬ Rose (K.faults sink.old) (K.faults sink.new)
+        → (result ≡ 0) ⊎ (result ≡ 8) }
+    ensures sink_answer { ¬ (K.faults sink.new ≡ K.faults sink.old) → result ≡ 5 }
     ensures unfailed { (result ≡ 0) ⊎ (result ≡ 3) → (S.faults source.new ≡ S.faults source.old) × (K.faults sink.new ≡ K.faults sink.old) }
 {
     match take_script(alloc, source) {

@@ -18,6 +18,7 @@ pub struct StdSource {
 }
 
 impl StdSource {
+    /// A source without faults so far.
     pub fn new(stdin: Stdin) -> StdSource {
         StdSource { stdin, faults: 0 }
     }
@@ -61,6 +62,7 @@ pub struct StdSink {
 }
 
 impl StdSink {
+    /// A sink without faults so far.
     pub fn new(stdout: Stdout) -> StdSink {
         StdSink { stdout, faults: 0 }
     }

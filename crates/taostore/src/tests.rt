@@ -74,46 +74,59 @@ impl Sink for SlowSink {
     }
 }
 
-// The program on these words and the script; the reads and writes with these numbers fail, and the sink has this much room.
+// The program on these words and the script; the reads and writes with these numbers fail, and the sink has this much room. The status,
+// whether a record is kept, and the sink.
 fn run(
     alloc: Global,
     line: &str,
     reads: &[u32],
     writes: &[u32],
     room: usize,
-) -> Result<(u8, ByteSink), NoMemory> {
+) -> Result<(u8, bool, ByteSink), NoMemory> {
     let words = words_of(alloc, line)?;
     let mut source = source_of(alloc, Image::from_slice(alloc, SCRIPT)?, reads)?;
     let mut sink = sink_of(alloc, room, writes)?;
     let mut kept = Kept { history: None };
     let status = taostore(alloc, &words, &mut source, &mut sink, &mut kept);
-    Ok((status, sink))
+    Ok((status, kept.history.is_some(), sink))
 }
 
-// the words, the reads and the writes that fail, and the sink's room; the status, and what is written
-static FAULTS: [(&str, &[u32], &[u32], usize, u8, &str); 14] = [
-    ("paly", &[], &[], 99, 2, "end 2\n"),
-    ("", &[], &[], 99, 2, "end 2\n"),
-    ("play play", &[], &[], 99, 2, "end 2\n"),
-    ("--help", &[], &[], 99, 2, "end 2\n"),
-    ("paly", &[], &[0], 99, 5, ""),
-    ("paly", &[], &[], 3, 5, "end"),
-    ("play", &[], &[], 999, 0, ONE_READ),
-    ("play", &[0], &[], 99, 4, "end 4\n"),
-    ("play", &[1], &[], 99, 4, "end 4\n"),
-    ("play", &[], &[0], 99, 5, ""),
-    ("play", &[], &[], 15, 5, "tree 1 1 4 1 1\n"),
-    ("play", &[], &[], 30, 5, "tree 1 1 4 1 1\nload 3\narrive 0"),
-    ("play", &[1], &[0], 99, 5, ""),
-    ("play", &[0], &[], 4, 5, "end "),
+// the words, the reads and the writes that fail, and the sink's room; the status, whether a record is kept, and what is written
+static FAULTS: [(&str, &[u32], &[u32], usize, u8, bool, &str); 14] = [
+    ("paly", &[], &[], 99, 2, false, "end 2\n"),
+    ("", &[], &[], 99, 2, false, "end 2\n"),
+    ("play play", &[], &[], 99, 2, false, "end 2\n"),
+    ("--help", &[], &[], 99, 2, false, "end 2\n"),
+    ("paly", &[], &[0], 99, 5, false, ""),
+    ("paly", &[], &[], 3, 5, false, "end"),
+    ("play", &[], &[], 999, 0, true, ONE_READ),
+    ("play", &[0], &[], 99, 4, false, "end 4\n"),
+    ("play", &[1], &[], 99, 4, false, "end 4\n"),
+    ("play", &[], &[0], 99, 5, true, ""),
+    ("play", &[], &[], 15, 5, true, "tree 1 1 4 1 1\n"),
+    (
+        "play",
+        &[],
+        &[],
+        30,
+        5,
+        true,
+        "tree 1 1 4 1 1\nload 3\narrive 0",
+    ),
+    ("play", &[1], &[0], 99, 5, false, ""),
+    ("play", &[0], &[], 4, 5, false, "end "),
 ];
 
 #[test]
 fn program_faults(rt: HostRuntime) -> Result<(), Fail> {
-    for (line, reads, writes, room, status, text) in &FAULTS {
-        let (answer, sink) = run(rt.alloc(), line, reads, writes, *room)?;
-        let written = (answer, sink.bytes());
-        assert_eq!(rt; written, (*status, text.as_bytes()), "at {line}, {room}");
+    for (line, reads, writes, room, status, keeps, text) in &FAULTS {
+        let (answer, kept, sink) = run(rt.alloc(), line, reads, writes, *room)?;
+        let written = (answer, kept, sink.bytes());
+        assert_eq!(rt;
+            written,
+            (*status, *keeps, text.as_bytes()),
+            "at {line}, {room}"
+        );
     }
     Ok(())
 }
