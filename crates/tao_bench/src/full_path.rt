@@ -52,7 +52,13 @@ fn fill(alloc: Global, p: &Params, stash: &mut Stash) -> Result<(), NoMemory>
     Ok(())
 }
 
-fn evict_paths(p: &Params, positions: &mut Positions, path: &mut [Entries], stash: &mut Stash, count: u32)
+fn evict_paths(
+    p: &Params,
+    positions: &mut Positions,
+    path: &mut [Entries],
+    stash: &mut Stash,
+    count: u32,
+)
     requires positions { positions.old.shape ≡ p.now }
     requires stash { stash.old.shape ≡ p.now }
     requires path { length path.old ≡ p.now.l + 1 }

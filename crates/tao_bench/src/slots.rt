@@ -16,7 +16,11 @@ pub(crate) fn checksum(alloc: Global, count: u32) -> Result<u64, anyhow::Error> 
     if let Some(root) = slots.find(1) {
         slots.remove(root);
     }
-    Ok(with_root.wrapping_mul(31).wrapping_add(found(&slots, count)))
+    Ok(
+        with_root
+            .wrapping_mul(31)
+            .wrapping_add(found(&slots, count)),
+    )
 }
 
 // Holds the first nodes, as many as the tree has at most.
