@@ -9,9 +9,17 @@ use std::mem;
 use tao_base::{Block, Bucket, Entries, NoMemory, Params, path_node};
 use tao_flush::{Positions, Stash, flush, load};
 
-/// Loads the store, and uses this many blocks one after another: a block gets another word and goes to the stash, and the path that it was
-/// on is evicted.
-pub(crate) fn checksum(alloc: Global, count: u32) -> Result<u64, anyhow::Error> {
+/// What is done in each turn, between the taking of a path from its nodes and the giving back.
+#[derive(Clone, Copy)]
+pub(crate) enum Turn {
+    /// A block of the path gets another word and goes to the stash, and the path is evicted.
+    Evicts,
+    /// The same but for the eviction. So that the stash stays small, it is always the first block that goes there.
+    Rests,
+}
+
+/// Loads the store, and does this many turns.
+pub(crate) fn checksum(alloc: Global, turn: Turn, count: u32) -> Result<u64, anyhow::Error> {
     let p = Params::new(10, 4, 64, 4_096, 1)?;
     let words = words_of(alloc, p.n())?;
     let blocks = blocks_of(alloc, &p)?;
@@ -31,6 +39,7 @@ pub(crate) fn checksum(alloc: Global, count: u32) -> Result<u64, anyhow::Error> 
         &mut path,
         nodes.as_mut_slice(),
         &mut stash,
+        turn,
         count,
     )?;
     Ok(entries_of(nodes.as_slice()))
@@ -85,6 +94,7 @@ fn use_blocks(
     path: &mut [Entries],
     nodes: &mut [Bucket],
     stash: &mut Stash,
+    turn: Turn,
     count: u32,
 ) -> Result<(), NoMemory>
     requires positions { positions.old.shape ≡ p.now }
@@ -94,13 +104,19 @@ fn use_blocks(
     requires nodes { length nodes.old ≡ node_count p.now.l }
     requires buckets { All (λ bucket. AreNodeEntries p.now bucket.entries) nodes.old }
 {
-    for turn in 0..count {
-        let block = mixed(turn) % p.n();
+    for i in 0..count {
+        let block = mixed(i) % p.n();
         let leaf = positions.leaf(block);
         swap_path(p, leaf, path, nodes);
-        positions.set(block, mixed(block ^ turn));
-        stash.put(block, block_of(alloc, p)?);
-        flush(p, leaf, path, stash, positions);
+        positions.set(block, mixed(block ^ i));
+        let value = block_of(alloc, p)?;
+        match turn {
+            Turn::Evicts => {
+                stash.put(block, value);
+                flush(p, leaf, path, stash, positions);
+            }
+            Turn::Rests => stash.put(0, value),
+        }
         swap_path(p, leaf, path, nodes);
     }
     Ok(())

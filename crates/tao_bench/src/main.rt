@@ -13,6 +13,7 @@ mod sequence;
 mod slots;
 mod xor;
 
+use crate::flush::Turn;
 use anyhow::{anyhow, bail};
 use std::env;
 
@@ -34,7 +35,8 @@ fn main(rt: HostRuntime) -> Result<(), anyhow::Error> {
             "frames" => frames::checksum(alloc, count)?,
             "sequence" => sequence::checksum(alloc, count)?,
             "copy" => copy::checksum(alloc, count)?,
-            "flush" => flush::checksum(alloc, count)?,
+            "flush" => flush::checksum(alloc, Turn::Evicts, count)?,
+            "flush-rest" => flush::checksum(alloc, Turn::Rests, count)?,
             "flush-1024" => full_path::checksum(alloc, 1_024, count)?,
             "flush-524288" => full_path::checksum(alloc, 524_288, count)?,
             "slots" => slots::checksum(alloc, count)?,

@@ -4,4 +4,5 @@ mod LoopLists
 mod PathNodes
 mod PlacedLists
 mod RisingLists
+mod SharedPaths
 mod WholePasses

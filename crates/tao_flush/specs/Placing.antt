@@ -1,5 +1,5 @@
 -- The pass in rising id, as the lists of a path's nodes see it.
-use Rattle.std.specs.Prelude.{◌≡◌, ℕ, ◌+◌, ◌==◌, nat_lt, Bool, ◌&&◌, List, [], ◌++◌, map, length, Option}
+use Rattle.std.specs.Prelude.{◌≡◌, ℕ, ◌+◌, ◌≤◌, ◌==◌, nat_lt, Bool, ◌&&◌, List, [], ◌++◌, map, length, Option}
 use Rattle.std.specs.List.{list_any, range_with_len, slice_index_or}
 use Rattle.std.specs.Option.{option_to_list}
 use Rattle.tao_base.specs.declared.storage.Entry.{Entry}
@@ -14,6 +14,10 @@ lists_on l at contents = map (λ depth. contents (node_at l at depth)) (range_wi
 -- a block may be placed in the nodes that are on both paths, that to `at` and that to its own leaf
 abbrev pub may_place : ℕ → ℕ → (ℕ → ℕ) → ℕ → ℕ → Bool
 may_place l at leaf b w = list_any (λ v. v == w) (path l at) && is_on_path l (leaf b) w
+
+-- the paths of two leaves have the same nodes as far as this depth, and no deeper
+abbrev pub AreShared : ℕ → ℕ → ℕ → ℕ → Type 0
+AreShared l at leaf depth = (d : ℕ) → d ≤ l → (node_at l leaf d == node_at l at d) ≡ nat_lt d (depth + 1)
 
 -- the node at this depth is on both paths, and has room
 abbrev pub fits : Shape → ℕ → ℕ → List (List Entry) → ℕ → Bool

@@ -1,16 +1,15 @@
 //! One pass in rising id: each entry goes to the deepest node of the path that it may lie in and that has room, or stays.
-ghost use Rattle.std.specs.Prelude.{◌≡◌, ◌+◌, ◌^◌, ◌<◌, ◌≤◌, ◌==◌, ◌&&◌, nat_lt, [], ◌∷◌, ◌++◌, length, take, drop, vec_capacity, IfSome, All};
+ghost use Rattle.std.specs.Prelude.{◌≡◌, ◌+◌, ◌^◌, ◌<◌, ◌≤◌, [], ◌∷◌, ◌++◌, length, take, drop, vec_capacity, IfSome, All};
 ghost use Rattle.std.specs.List.{slice_index_or};
 ghost use Rattle.std.specs.Option.{option_to_list};
-ghost use Rattle.tao_base.specs.Tree.{node_at};
 ghost use Rattle.tao_model.specs.Greatest.{IsLast};
 ghost use Rattle.tao_flush.specs.State.{leaf_in};
-ghost use Rattle.tao_flush.specs.Placing.{fits, lists_on, all_placed, PlacesNext};
+ghost use Rattle.tao_flush.specs.Placing.{fits, lists_on, all_placed, PlacesNext, AreShared};
 
 use crate::gathering::take;
 use crate::positions::Positions;
 use std::alloc::Global;
-use tao_base::{Entries, Entry, Params, path_node};
+use tao_base::{Entries, Entry, Params};
 
 /// Puts the entries of a rising list into the empty nodes of the path to a leaf. What finds no room stays in the list.
 pub(crate) fn place_entries(
@@ -100,6 +99,7 @@ fn place_entry(
     }
 }
 
+#[tactic(auto, using(crate::proofs::SharedPaths::shared_fits, crate::proofs::SharedPaths::deeper_fails))]
 // The depth of the deepest node on the paths of both leaves that has room.
 fn deepest_with_room(p: &Params, leaf: u32, other: u32, path: &[Entries]) -> Option<u32>
     requires leaf { leaf < 2 ^ p.now.l }
@@ -108,26 +108,26 @@ fn deepest_with_room(p: &Params, leaf: u32, other: u32, path: &[Entries]) -> Opt
     ensures deepest { IsLast (fits p.now leaf other path.now) (p.now.l + 1) result }
     ensures room { IfSome result (λ depth. length (slice_index_or path.now depth []) < 8) }
 {
-    let mut depth = p.l() + 1;
+    let z = p.z() as usize;
+    let shared = shared_depth(p, leaf, other);
+    let mut depth = shared + 1;
     while depth > 0 {
         depth -= 1;
-        if has_room_for(p, leaf, other, depth, &path[depth as usize]) {
+        if path[depth as usize].as_slice().len() < z {
             return Some(depth);
         }
     }
     None
 }
 
-// Whether the node at this depth is on the paths of both leaves and has room.
-fn has_room_for(p: &Params, leaf: u32, other: u32, depth: u32, list: &Entries) -> bool
+// The depth of the deepest node that is on the paths of both leaves.
+fn shared_depth(p: &Params, leaf: u32, other: u32) -> u32
     requires leaf { leaf < 2 ^ p.now.l }
     requires other { other < 2 ^ p.now.l }
-    requires depth { depth ≤ p.now.l }
-    ensures value { result ≡ ((node_at p.now.l other depth == node_at p.now.l leaf depth) && nat_lt (length list.now) p.now.z) }
-    ensures room { p.now.z ≤ 8 }
+    ensures within { result ≤ p.now.l }
+    ensures shared { AreShared p.now.l leaf other result }
 {
-    let z = p.z() as usize;
-    path_node(p, other, depth) == path_node(p, leaf, depth) && list.as_slice().len() < z
+    p.l() - (32 - (other ^ leaf).leading_zeros())
 }
 
 /// Adds an entry to a node that has room.
