@@ -1,4 +1,4 @@
-ghost use Rattle.std.specs.Prelude.{◌≡◌, ◌≤◌, length, IsTrue};
+ghost use Rattle.std.specs.Prelude.{◌≡◌, ◌≤◌, [], ◌∷◌, length, codes, IsTrue, IfOk};
 ghost use Rattle.tao_base.specs.Limits.{bucket_len};
 ghost use Rattle.tao_base.specs.Tree.{node_count};
 ghost use Rattle.tao_bucket.specs.Encoding.{IsWritten};
@@ -69,23 +69,90 @@ fn two_slots(first: (u8, u8), second: (u8, u8)) -> [u8; 36] {
     bytes
 }
 
+// The bucket of node 5, version 3 and nonce 9 with block 1, whose value is abcd, in a store of two blocks of four bytes a bucket. In clear its
+// slots are 0000000261626364 and 0000000000000000; Python's cryptography and hmac make the other bytes of them.
+const WORKED: [u8; 36] = [
+    1, 0, 0, 0, 0, 0, 0, 5, 0, 0, 0, 3, 0, 0, 0, 0, 0, 0, 0, 9, 0xad, 0x88, 0x2f, 0x02, 0xbc, 0xa1,
+    0x36, 0xb1, 0xc5, 0xc8, 0xdc, 0x27, 0x3c, 0x88, 0x54, 0x0b,
+];
+
+// The tag of the same bytes with format 2 in front.
+const WORKED_TAG: [u8; 32] = [
+    0xbe, 0x39, 0xcb, 0x80, 0x20, 0xa1, 0xcb, 0xa0, 0x5f, 0xba, 0x59, 0x22, 0x91, 0xa8, 0xfa, 0xbc,
+    0xc8, 0x19, 0x87, 0xf8, 0x0a, 0x13, 0x6b, 0x48, 0x94, 0x2d, 0x13, 0xff, 0xad, 0xd5, 0xab, 0xce,
+];
+
+fn worked(alloc: Global) -> Result<Bucket, NoMemory>
+    ensures { IfOk result (λ bucket. (bucket.node ≡ 5) × (bucket.entries ≡ record { id = 1; value = codes "abcd" } ∷ [])) }
+{
+    let mut entries = Entries::new(alloc)?;
+    let value = Block::from_slice(alloc, b"abcd")?;
+    entries.push(Entry { id: 1, value })?;
+    Ok(Bucket {
+        node: 5,
+        version: 3,
+        nonce: 9,
+        entries,
+    })
+}
+
 #[test]
 fn worked_bucket(rt: HostRuntime) -> Result<(), Fail> {
+    let alloc = rt.alloc();
     let p = Params::new(2, 2, 4, 4, 1)?;
-    let bytes = two_slots((2, 0x64), (0, 0));
+    let mut bytes = [9; 36];
+    encode_into(&worked(alloc)?, &p, &KEY, 1, &mut bytes);
+    assert_eq!(rt; bytes, WORKED);
     assert_eq!(rt;
-        (node_of(&bytes), version_of(&bytes), nonce_of(&bytes)),
+        (node_of(&WORKED), version_of(&WORKED), nonce_of(&WORKED)),
         (5, 3, 9)
     );
-    let mut room = Room::new(rt.alloc(), &p)?;
-    assert_eq!(rt; decode(&p, &KEY, 5, 1, &bytes, &mut room), Ok(()));
+    let mut room = Room::new(alloc, &p)?;
+    assert_eq!(rt; decode(&p, &KEY, 5, 1, &WORKED, &mut room), Ok(()));
     let bucket = room.bucket().ok_or("the room is empty")?;
+    assert_eq!(rt; (bucket.node, bucket.version, bucket.nonce), (5, 3, 9));
     let entries = bucket.entries.as_slice();
     assert_eq!(rt; entries.len(), 1);
-    assert_eq!(rt;
-        (entries[0].id, entries[0].value.as_slice()),
-        (1, [0, 0, 0, 0x64].as_slice())
-    );
+    let entry = (entries[0].id, entries[0].value.as_slice());
+    assert_eq!(rt; entry, (1, b"abcd".as_slice()));
+    Ok(())
+}
+
+// the wanted node, how many of the bytes, and a byte that is xored
+#[test]
+fn worked_faults(rt: HostRuntime) -> Result<(), Fail> {
+    let alloc = rt.alloc();
+    let p = Params::new(2, 2, 4, 4, 1)?;
+    for (want, len, at, mask, fault) in [
+        // block 0 behind block 1
+        (5, 36, 31, 0x01, BucketFault::Order),
+        (5, 36, 35, 0x01, BucketFault::Dummy),
+        (4, 36, 0, 0x00, BucketFault::Node),
+        // the id field 00000005
+        (5, 36, 23, 0x07, BucketFault::Id),
+        (5, 35, 0, 0x00, BucketFault::Length),
+    ] {
+        let mut bytes = WORKED;
+        bytes[at] ^= mask;
+        assert_eq!(rt;
+            fault_of(alloc, &p, want, 1, &bytes[..len])?,
+            Some(fault),
+            "at {at}"
+        );
+    }
+    Ok(())
+}
+
+#[test]
+fn worked_tag(rt: HostRuntime) -> Result<(), Fail> {
+    let alloc = rt.alloc();
+    let p = Params::new(2, 2, 4, 4, 1)?.with_form(Form::Two)?;
+    let mut bytes = [9; 68];
+    encode_into(&worked(alloc)?, &p, &KEY, 2, &mut bytes);
+    assert_eq!(rt; bytes[0], 2);
+    assert_eq!(rt; &bytes[1..36], &WORKED[1..]);
+    assert_eq!(rt; &bytes[36..], WORKED_TAG.as_slice());
+    assert_eq!(rt; fault_of(alloc, &p, 5, 2, &bytes)?, None);
     Ok(())
 }
 
@@ -199,6 +266,28 @@ fn altered_paths(rt: HostRuntime) -> Result<(), Fail> {
         path_faults(&rt, alloc, &p, 1, (3, 1), [(0, 0), (0, 0)])?,
         (Some(BucketFault::Node), Some(BucketFault::Node))
     );
+    Ok(())
+}
+
+// of the leaf's bucket, whose block is zeros: a bit of the value is another value, and without the bit of its id field the block is missing
+#[test]
+fn altered_leaf(rt: HostRuntime) -> Result<(), Fail> {
+    let alloc = rt.alloc();
+    let p = Params::new(1, 1, 4, 1, 1)?;
+    for (at, count) in [(52, 1), (51, 0)] {
+        let mut bytes = [0; 28];
+        write_bucket(alloc, &p, 3, Some(0), 1, &mut bytes)?;
+        bytes[at - 28] ^= 1;
+        let mut room = Room::new(alloc, &p)?;
+        assert_eq!(rt; decode(&p, &KEY, 3, 1, &bytes, &mut room), Ok(()));
+        let bucket = room.bucket().ok_or("the room is empty")?;
+        let entries = bucket.entries.as_slice();
+        assert_eq!(rt; entries.len(), count);
+        for entry in entries {
+            let found = (entry.id, entry.value.as_slice());
+            assert_eq!(rt; found, (0, [1, 0, 0, 0].as_slice()));
+        }
+    }
     Ok(())
 }
 

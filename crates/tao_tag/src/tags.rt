@@ -5,7 +5,7 @@ ghost use Rattle.tao_tag.specs.Tags.{hmac, padded, tag_key};
 use sha2::{Digest, Sha256};
 
 #[tactic(auto, unfolding(crate::specs::Tags::hmac))]
-/// The tag of a text, for keys of at most a block.
+/// The tag of a text: HMAC (RFC 2104) with SHA-256 (FIPS 180-4). The key has at most 64 bytes, which is a block of that hash.
 pub fn hmac(key: &[u8], text: &[u8]) -> [u8; 32]
     requires { length key.now ≤ 64 }
     ensures { result ≡ hmac key.now text.now }
@@ -20,7 +20,7 @@ pub fn hmac(key: &[u8], text: &[u8]) -> [u8; 32]
 }
 
 #[tactic(auto, unfolding(crate::specs::Tags::tag_key))]
-/// The key for the tags of a store's buckets. It is another than the store's own, whose keystreams buckets are xored with.
+/// The key for the tags of a store's buckets: the tag of the one byte 01 under the store's own key, whose keystreams buckets are xored with.
 pub fn tag_key(key: &[u8; 32]) -> [u8; 32]
     ensures { result ≡ tag_key key.now }
 {

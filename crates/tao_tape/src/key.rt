@@ -9,7 +9,7 @@ use rand_core::utils::NextWord;
 use std::fmt;
 use std::marker::Model;
 
-/// The words of stream 0 of a key. There are 2^64 - 1.
+/// The words of stream 0 of a key: those of ChaCha20 (RFC 8439), with 64 bits for the block counter. There are 2^64 - 1.
 #[derive(Drop)]
 pub struct KeyTape {
     key: [u8; 32],

@@ -6,7 +6,8 @@ use rand_chacha::ChaCha20Rng;
 use rand_core::SeedableRng;
 use rand_core::utils::NextWord;
 
-/// Xors each byte with the byte of stream `nonce` at its place. A word of the stream gives four bytes, the low one first.
+/// Xors each byte with the byte of stream `nonce` at its place. A stream is the keystream of ChaCha20 (RFC 8439) from block 0 on, with 64
+/// bits each for the block counter and the nonce; a word of it gives four bytes, the low one first.
 pub fn xor_stream(key: &[u8; 32], nonce: u64, bytes: &mut [u8])
     ensures { bytes.new ≡ xored key.now nonce bytes.old }
 {
