@@ -16,6 +16,7 @@ pub fn kind_is_real()
     ensures { KindIsReal }
 {}
 
+/// Where nothing has arrived there are no requests.
 pub fn follows_none()
     ensures { FollowsNone }
 {}

@@ -113,6 +113,7 @@ impl Requests {
         );
     }
 
+    /// The kind that the request began with.
     pub fn kind_of(&self, arrival: u64) -> Kind
         requires { arrival < length self.now.requests }
         ensures { result ≡ (request_at self.now.requests arrival).kind }

@@ -80,3 +80,17 @@ fn settled_in_the_order_of_arrival(rt: HostRuntime) -> Result<(), Fail> {
     assert_eq!(rt; requests.kind_of(4), Kind::Fake);
     Ok(())
 }
+
+#[test]
+fn kind_and_block_of_a_request(rt: HostRuntime) -> Result<(), Fail> {
+    let alloc = rt.alloc();
+    let p = Params::new(1, 1, 4, 2, 1)?;
+    let mut requests = Requests::new(alloc, &p)?;
+    requests.reserve()?;
+    assert_eq!(rt; requests.begin(0, &Op::Read(1)), Kind::Real);
+    assert_eq!(rt;
+        (requests.kind_of(0), requests.block_of(0)),
+        (Kind::Real, 1)
+    );
+    Ok(())
+}

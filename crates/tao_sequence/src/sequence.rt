@@ -45,6 +45,7 @@ impl Sequence {
         self.released = first_undone(&self.done, self.released);
     }
 
+    /// Whether this arrival is done. One that a session can't have isn't.
     pub fn is_done(&self, arrival: u64) -> bool
         ensures { result ≡ is_done_in self.now arrival }
     {

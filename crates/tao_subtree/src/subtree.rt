@@ -124,6 +124,7 @@ impl Subtree {
         }
     }
 
+    /// Whether a node is resident. A number that no node of the tree has isn't.
     pub fn is_resident(&self, node: u32) -> bool
         ensures value { result ≡ is_some (resident_at self.now node) }
         ensures places { HasPlaces self.now }
