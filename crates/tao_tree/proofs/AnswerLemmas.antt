@@ -1,14 +1,14 @@
 -- What came, against the frame that was wanted.
-use Rattle.std.proofs.Common.{◌≡◌, ◌≢◌, ◌⊎◌, inl, inr, MatchBool, ℕ, ◌+◌, ◌-◌, ◌<◌, ◌≤◌, ◌==◌, ◌&&◌, Bool, true, false, List, [], ◌∷◌, ◌++◌, length, take, drop, Option, refl, sym, ap, ap₂, ◌∙◌, subst, arith, append_assoc}
+use Rattle.std.proofs.Common.{◌≡◌, ◌≢◌, ◌⊎◌, inl, inr, MatchBool, ℕ, ◌+◌, ◌-◌, ◌≤◌, ◌==◌, ◌&&◌, Bool, true, false, List, [], ◌∷◌, ◌++◌, length, take, drop, Option, refl, sym, ap, ap₂, ◌∙◌, subst, arith, append_assoc}
 use Rattle.std.specs.Int.{w32, w64, to_be_bytes}
-use Rattle.std.specs.Io.KnownBytes.{Consumes, IsAtEnd}
+use Rattle.std.specs.Io.KnownBytes.{Consumes}
 use Rattle.std.proofs.lemmas.Bool.{eqb-true, eq-eqb, false≢true}
-use Rattle.std.proofs.lemmas.List.{length-append, take-append-drop, take-append-le, take_all}
+use Rattle.std.proofs.lemmas.List.{take-append-drop}
 use Rattle.tao_bucket.specs.Reading.{same}
 use Rattle.tao_wire.specs.Frames.{frame, content}
 use Rattle.tao_wire.specs.declared.message.Message.{Message}
 use Rattle.tao_wire.specs.declared.message.Message.TheVariants.{Path, Store, Stored}
-use Rattle.tao_tree.specs.Streams.{ConsumesOther, ConsumesWrong, IsNoFront, AnswersFetch, AnswersStore}
+use Rattle.tao_tree.specs.Streams.{IsOtherLength, EndsWithin, IsOtherFrame, ConsumesOther, ConsumesWrong, AnswersFetch, AnswersStore}
 
 and_parts : (a b : Bool) → (a && b) ≡ true → (a ≡ true) × (b ≡ true)
 and_parts true true h = (refl, refl)
@@ -28,47 +28,25 @@ same_self (x ∷ xs) = ap₂ (λ a b. a && b) (eq-eqb x x refl) (same_self xs)
 pub same_false : (xs ys : List ℕ) → same xs ys ≡ false → xs ≢ ys
 same_false xs ys h e = false≢true (sym h ∙ subst (λ zs. same xs zs ≡ true) e (same_self xs))
 
--- a frame of another length is no front of a wanted one
-front_same : (a b c d : List ℕ) → length a ≡ length c → a ++ b ≡ c ++ d → a ≡ c
-front_same a b c d h e = sym (take-append-le (length a) a b (omega arith) ∙ take_all (length a) a (omega arith)) ∙ ap (take (length a)) e ∙ take-append-le (length a) c d (omega arith) ∙ take_all (length a) c (omega arith)
-
--- a field of the right length and another value begins no wanted frame
-pub wrong_length : (IsWanted : Message → Type 0) (n : ℕ) (came : List ℕ) → ((message : Message) → IsWanted message → length (content message) ≡ n) → length came ≡ 4 → came ≢ to_be_bytes w32 n → IsNoFront IsWanted came
-wrong_length IsWanted n came size four other message rest wanted e =
-    let field : length (to_be_bytes w32 (length (content message))) ≡ 4 = refl in
-    other (sym (front_same (to_be_bytes w32 (length (content message))) (content message) came rest (field ∙ sym four) e) ∙ ap (to_be_bytes w32) (size message wanted))
-
 -- behind the field is the content
-content_behind : (message : Message) (c rest : List ℕ) → frame message ≡ (to_be_bytes w32 (length c) ++ c) ++ rest → content message ≡ c ++ rest
-content_behind message c rest e = ap (drop 4) (e ∙ append_assoc (to_be_bytes w32 (length c)) c rest)
+content_behind : (message : Message) (c : List ℕ) → frame message ≡ to_be_bytes w32 (length c) ++ c → content message ≡ c
+content_behind message c e = ap (drop 4) e
 
--- a content of another kind or id begins no wanted path
-pub wrong_head : (id len : ℕ) (c : List ℕ) → length c ≡ 9 + len → take 9 c ≢ 2 ∷ to_be_bytes w64 id → IsNoFront (AnswersFetch id len) (to_be_bytes w32 (length c) ++ c)
-wrong_head id len c size other message rest wanted e =
-    let said : content (Path id wanted.0) ≡ c ++ rest = subst (λ m. content m ≡ c ++ rest) wanted.2 (content_behind message c rest e) in
-    let nine : 9 ≤ length c = omega arith in
-    other (sym (ap (take 9) said ∙ take-append-le 9 c rest nine))
+-- a frame of another kind or id is no wanted path's
+wrong_head : (id len : ℕ) (c : List ℕ) → take 9 c ≢ 2 ∷ to_be_bytes w64 id → (message : Message) → AnswersFetch id len message → frame message ≢ to_be_bytes w32 (length c) ++ c
+wrong_head id len c other message wanted e =
+    let said : content (Path id wanted.0) ≡ c = subst (λ m. content m ≡ c) wanted.2 (content_behind message c e) in
+    other (sym (ap (take 9) said))
 
-pub wrong_stored : (version : ℕ) (c : List ℕ) → length c ≡ 5 → c ≢ 4 ∷ to_be_bytes w32 version → IsNoFront (AnswersStore version) (to_be_bytes w32 (length c) ++ c)
-wrong_stored version c size other message rest wanted e =
-    let said : content (Stored version) ≡ c ++ rest = subst (λ m. content m ≡ c ++ rest) wanted (content_behind message c rest e) in
-    let all : take 5 c ≡ c = take_all 5 c (omega arith) in
-    let five : 5 ≤ length c = omega arith in
-    other (sym (ap (take 5) said ∙ take-append-le 5 c rest five ∙ all))
-
-pub path_size : (id len : ℕ) (message : Message) → AnswersFetch id len message → length (content message) ≡ 9 + len
-path_size id len message wanted = ap (λ m. length (content m)) wanted.2 ∙ omega (arith, length-append (to_be_bytes w64 id) wanted.0, wanted.1)
-
-pub stored_size : (version : ℕ) (message : Message) → AnswersStore version message → length (content message) ≡ 5
-stored_size version message wanted = ap (λ m. length (content m)) wanted
+wrong_stored : (version : ℕ) (c : List ℕ) → c ≢ 4 ∷ to_be_bytes w32 version → (message : Message) → AnswersStore version message → frame message ≢ to_be_bytes w32 (length c) ++ c
+wrong_stored version c other message wanted e = other (sym (subst (λ m. content m ≡ c) wanted (content_behind message c e)))
 
 -- what came is no frame of that length, so no wanted one
-pub other_wrong : (old new : Option (List ℕ)) (IsWanted : Message → Type 0) (n len : ℕ) → n ≡ len → ((message : Message) → IsWanted message → length (content message) ≡ len) → ConsumesOther old new n → ConsumesWrong old new IsWanted len
-other_wrong old new IsWanted n len same size o = record {
+pub other_wrong : (old new : Option (List ℕ)) (IsWanted : Message → Type 0) (len : ℕ) → ConsumesOther old new len → ConsumesWrong old new IsWanted len
+other_wrong old new IsWanted len o = record {
   came = o.came;
   taken = o.taken;
-  wrong = elim o.other as (λ _. IsNoFront IsWanted o.came ⊎ ((length o.came < 4 + len) × IsAtEnd new))
-      [ inl h ↦ inl (wrong_length IsWanted len o.came size h.0 (subst (λ m. o.came ≢ to_be_bytes w32 m) same h.1)) | inr h ↦ inr (subst (λ m. length o.came < 4 + m) same h.0, h.1) ];
+  wrong = elim o.other as (λ _. IsOtherLength len o.came ⊎ (EndsWithin len o.came new ⊎ IsOtherFrame IsWanted len o.came)) [ inl h ↦ inl h | inr h ↦ inr (inl h) ];
 }
 
 -- a content that was wanted is that path's
@@ -84,7 +62,7 @@ judged_path old new id c true long h came = subst (Consumes old new) (whole_path
 judged_path old new id c false long h came = record {
   came = to_be_bytes w32 (length c) ++ c;
   taken = came;
-  wrong = inl (wrong_head id (length c - 9) c (omega arith) (same_false (take 9 c) (2 ∷ to_be_bytes w64 id) (sym h)));
+  wrong = inr (inr (record { content = c; size = refl; whole = refl; other = wrong_head id (length c - 9) c (same_false (take 9 c) (2 ∷ to_be_bytes w64 id) (sym h)) }));
 }
 
 pub judged_stored : (old new : Option (List ℕ)) (version : ℕ) (c : List ℕ) (right : Bool) → length c ≡ 5 → right ≡ same c (4 ∷ to_be_bytes w32 version) → Consumes old new (to_be_bytes w32 (length c) ++ c)
@@ -94,7 +72,7 @@ judged_stored old new version c true five h came =
 judged_stored old new version c false five h came = record {
   came = to_be_bytes w32 (length c) ++ c;
   taken = came;
-  wrong = inl (wrong_stored version c five (same_false c (4 ∷ to_be_bytes w32 version) (sym h)));
+  wrong = inr (inr (record { content = c; size = five; whole = ap (λ n. to_be_bytes w32 n ++ c) five; other = wrong_stored version c (same_false c (4 ∷ to_be_bytes w32 version) (sym h)) }));
 }
 
 -- what stands before an image, and the image

@@ -28,6 +28,7 @@ impl Model for SharedTree {
 impl SharedTree {
     ghost use Rattle.tao_tree.specs.Nodes.{IsSomePath, IsWhole};
 
+    /// Puts the tree behind a lock.
     pub fn new(tree: Tree) -> SharedTree
         ensures { result ≡ tree.shape }
     {

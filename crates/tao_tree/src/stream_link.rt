@@ -2,13 +2,13 @@
 ghost use Rattle.std.specs.Prelude.{◌≡◌, ◌⊎◌, ◌+◌, ◌*◌, ◌^◌, ◌<◌, ◌≤◌, ◌∷◌, ◌++◌, [], ◌-◌, length, drop, None, IfOk, OnOk, OnErr, MatchBool};
 ghost use Rattle.std.specs.Int.{w32, w64, to_be_bytes};
 ghost use Rattle.std.specs.Io.KnownBytes.{Appends, Consumes};
-ghost use Rattle.tao_base.specs.Causes.{HasCause, Rose, one_more};
+ghost use Rattle.tao_base.specs.Causes.{HasCause};
 ghost use Rattle.tao_base.specs.Limits.{bucket_len};
 ghost use Rattle.tao_base.specs.Links.{TellsMore, IsSendable, asked_of};
 ghost use Rattle.tao_base.specs.declared.links.Asked.TheVariants.{Fetch as FetchAsked};
 ghost use Rattle.tao_wire.specs.Frames.{frame};
 ghost use Rattle.tao_wire.specs.declared.message.Message.TheVariants.{Fetch, Path, Store, Stored};
-ghost use Rattle.tao_tree.specs.Streams.{stream_reach, AppendsPart, ConsumesWrong, AnswersFetch, AnswersStore};
+ghost use Rattle.tao_tree.specs.Streams.{stream_reach, AppendsPart, ConsumesWrong, FailsToSend, FailsToReceive, IsAnsweredWrong, AnswersFetch, AnswersStore};
 
 use crate::transfers::{are_same, put_all, receive};
 use std::alloc::Global;
@@ -88,9 +88,11 @@ impl<S: Source, K: Sink> Link for StreamLink<S, K> {
         ensures sent { OnOk result (Appends (K.put self.old.sink) (K.put self.new.sink) (frame (Fetch id leaf))) }
         ensures part { AppendsPart (K.put self.old.sink) (K.put self.new.sink) (frame (Fetch id leaf)) }
         ensures answer { OnOk result (Consumes (S.left self.old.source) (S.left self.new.source) (frame (Path id path.new))) }
-        ensures err { OnErr result (Rose (K.faults self.old.sink) (K.faults self.new.sink)
-            ⊎ Rose (S.faults self.old.source) (S.faults self.new.source)
-            ⊎ ((self.new.wrong ≡ one_more self.old.wrong) × ConsumesWrong (S.left self.old.source) (S.left self.new.source) (AnswersFetch id (length path.old)) (9 + length path.old))) }
+        ensures kept { OnOk result (self.new.wrong ≡ self.old.wrong) }
+        ensures err { OnErr result (FailsToSend self.old self.new (K.faults self.old.sink) (K.faults self.new.sink)
+            ⊎ (Appends (K.put self.old.sink) (K.put self.new.sink) (frame (Fetch id leaf))
+            × (FailsToReceive self.old self.new (S.faults self.old.source) (S.faults self.new.source)
+            ⊎ IsAnsweredWrong self.old self.new (S.faults self.old.source) (S.faults self.new.source) (K.faults self.old.sink) (K.faults self.new.sink) (S.left self.old.source) (S.left self.new.source) (AnswersFetch id (length path.old)) (9 + length path.old)))) }
     {
         put_fetch(&mut self.sink, id, leaf)?;
         if !receive_path(&mut self.source, &mut self.room, id)? {
@@ -110,9 +112,11 @@ impl<S: Source, K: Sink> Link for StreamLink<S, K> {
         ensures sent { OnOk result (Appends (K.put self.old.sink) (K.put self.new.sink) (frame (Store order.now.version order.now.image))) }
         ensures part { AppendsPart (K.put self.old.sink) (K.put self.new.sink) (frame (Store order.now.version order.now.image)) }
         ensures answer { OnOk result (Consumes (S.left self.old.source) (S.left self.new.source) (frame (Stored order.now.version))) }
-        ensures err { OnErr result (Rose (K.faults self.old.sink) (K.faults self.new.sink)
-            ⊎ Rose (S.faults self.old.source) (S.faults self.new.source)
-            ⊎ ((self.new.wrong ≡ one_more self.old.wrong) × ConsumesWrong (S.left self.old.source) (S.left self.new.source) (AnswersStore order.now.version) 5)) }
+        ensures kept { OnOk result (self.new.wrong ≡ self.old.wrong) }
+        ensures err { OnErr result (FailsToSend self.old self.new (K.faults self.old.sink) (K.faults self.new.sink)
+            ⊎ (Appends (K.put self.old.sink) (K.put self.new.sink) (frame (Store order.now.version order.now.image))
+            × (FailsToReceive self.old self.new (S.faults self.old.source) (S.faults self.new.source)
+            ⊎ IsAnsweredWrong self.old self.new (S.faults self.old.source) (S.faults self.new.source) (K.faults self.old.sink) (K.faults self.new.sink) (S.left self.old.source) (S.left self.new.source) (AnswersStore order.now.version) 5))) }
     {
         // tells the limits of the parameters
         let _within = self.p.l();

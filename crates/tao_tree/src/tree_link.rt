@@ -26,6 +26,7 @@ impl<'t> Model for TreeLink<'t> {
 }
 
 impl<'t> TreeLink<'t> {
+    /// A link to this tree.
     pub fn new(tree: &'t SharedTree) -> TreeLink<'t>
         ensures { result ≡ tree.now }
     {

@@ -1,14 +1,13 @@
-use Rattle.std.proofs.Common.{◌≡◌, ◌+◌, ◌-◌, length, take, refl, ap, ◌∙◌, arith}
+use Rattle.std.proofs.Common.{◌-◌, length, take, ap, ◌∙◌, arith}
 use Rattle.tao_bucket.specs.Reading.{same}
 use Rattle.tao_tree.specs.Streams.{AnswersFetch}
-use Rattle.tao_tree.proofs.AnswerLemmas.{judged_path, other_wrong, path_size, when_true, when_false}
+use Rattle.tao_tree.proofs.AnswerLemmas.{judged_path, other_wrong, when_true, when_false}
 use Rattle.tao_tree.proofs.stream_link.receive_path.Goals as goal
 
 pub returns-then-not-branch-clause-came : goal.returns-then-not-branch-clause-came
 returns-then-not-branch-clause-came g c =
     let n = length c.receive.new.content in
-    let whole : 9 + (n - 9) ≡ n = omega (arith, c.receive.auto.content) in
-    other_wrong _ _ (AnswersFetch c.args.id (n - 9)) n n refl (λ message wanted. path_size c.args.id (n - 9) message wanted ∙ whole) (when_false _ _ _ c.if-not-branch.true c.in_ok-receive.ensures.came)
+    other_wrong _ _ (AnswersFetch c.args.id (n - 9)) n (when_false _ _ _ c.if-not-branch.true c.in_ok-receive.ensures.came)
 
 pub returns-clause-came : goal.returns-clause-came
 returns-clause-came g c =
