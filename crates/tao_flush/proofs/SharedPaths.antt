@@ -1,8 +1,8 @@
 -- How far two paths go together, told by the bits in which their leaves differ.
-use Rattle.std.proofs.Common.{◌≡◌, ℕ, ◌+◌, ◌-◌, ◌*◌, ◌/◌, ◌^◌, ◌<◌, ◌≤◌, Bool, true, false, ◌&&◌, List, [], length, nat_eq, nat_lt, refl, sym, ap, subst, ◌∙◌, arith, inl, inr, ◌⊎◌}
+use Rattle.std.proofs.Common.{◌≡◌, ℕ, ◌+◌, ◌-◌, ◌*◌, ◌/◌, ◌^◌, ◌<◌, ◌≤◌, false, List, [], length, nat_eq, nat_lt, refl, sym, ap, subst, ◌∙◌, arith, inl, inr, ◌⊎◌}
 use Rattle.std.proofs.Math.Nat.{div-eq_of_lt, lt-div-mul-add}
 use Rattle.std.proofs.Math.Pow.{pow_mono}
-use Rattle.std.specs.Int.Bits.{bit_xor, bit_and, xor_add_and, xor_self}
+use Rattle.std.specs.Int.Bits.{bit_xor, xor_add_and, xor_self}
 use Rattle.std.specs.Int.Count.{count_leading_zeros}
 use Rattle.std.specs.List.{slice_index_or}
 use Rattle.std.proofs.lemmas.Bool.{eq-eqb, ne_eqb, lt-ltb, le-ltb, cases_lt}

@@ -1,7 +1,6 @@
-use Rattle.std.proofs.Common.{subst, ◌∙◌, ap, sym}
+use Rattle.std.proofs.Common.{◌-◌, ◌≤◌, sym, subst}
 use Rattle.std.specs.Int.Bits.{bit_xor}
 use Rattle.std.specs.Int.Count.{count_leading_zeros}
-use Rattle.std.proofs.Common.{◌-◌, ◌≤◌}
 use Rattle.tao_flush.specs.Placing.{AreShared}
 use Rattle.tao_flush.proofs.SharedPaths.{few_last_bits, shared_depth}
 use Rattle.tao_flush.proofs.placing.shared_depth.Goals as goal
