@@ -121,7 +121,8 @@ fn loose_text(rt: HostRuntime) -> Result<(), Fail> {
     assert!(rt; spelled.as_slice() == b"tree 1 1 4 1 1\nload 0 00ffabcd\ndo 0 read 0\n".as_slice());
     assert_eq!(rt; (script.tree_line, script.form_line), (3, None));
     assert_eq!(rt; (script.seal, script.reopen.is_none()), (false, true));
-    assert_eq!(rt; script.steps.as_slice()[0].line, 8);
+    let line = script.steps.as_slice().first().map(|step| step.line);
+    assert_eq!(rt; line, Some(8));
     Ok(())
 }
 
