@@ -14,5 +14,6 @@ with_front old front = take (length old) (front ++ drop (length front) old)
 abbrev pub LendsItems : (R : RattleType) → MutBor (List R.Denot) → MutBor (List R.Denot) → Fml
 LendsItems R s r = Lends (the_row R) (Array R 0) s r (with_front s.now)
 
+-- the same for a list of entries
 abbrev pub LendsEntries : MutBor (List Entry) → MutBor (List Entry) → Fml
 LendsEntries s r = Lends entries_row (Array entry_row 0) s r (with_front s.now)

@@ -15,18 +15,21 @@ pub record Shape : Type 0 where
   pub k : ℕ
   pub form : Form
 
+-- the shape of these numbers and this form, in the order of the fields
 abbrev pub shape : ℕ → ℕ → ℕ → ℕ → ℕ → Form → Shape
 shape l z b n k form = record { l = l; z = z; b = b; n = n; k = k; form = form }
 
--- bytes of a bucket: a header of 20, z slots of an id and a block, and in a store with tags a tag of 32
+-- bytes of a bucket without its tag: a header of 20, and z slots of an id and a block
 abbrev pub slots_len : ℕ → ℕ → ℕ
 slots_len z b = 20 + z * (4 + b)
 
+-- bytes behind the slots of a bucket in a store of this form, where its tag has its place: 32, or none in a store without tags
 abbrev pub tag_len : Form → ℕ
 tag_len One = 0
 tag_len Two = 32
 tag_len Turn = 32
 
+-- bytes of a bucket of this store, with the place of its tag
 abbrev pub bucket_len : Shape → ℕ
 bucket_len s = slots_len s.z s.b + tag_len s.form
 
@@ -68,5 +71,6 @@ shape_of l z b n k =
 abbrev pub in_form : Shape → Form → Shape
 in_form s form = shape s.l s.z s.b s.n s.k form
 
+-- the same store in this form, or a fault where its tree would then be longer than 2^29 bytes
 abbrev pub in_form_or_fault : Shape → Form → Result Shape ParamFault
 in_form_or_fault s form = if nat_lt (2 ^ 29) (tree_len (in_form s form)) then Err TreeTooLarge else Ok (in_form s form)

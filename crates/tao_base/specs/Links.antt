@@ -18,9 +18,11 @@ pub record Told : Type 0 where
   pub answers : List (List ℕ)
   pub stored : List ℕ
 
+-- what a link tells that was asked this, answered this and stored these versions
 abbrev pub told : List Asked → List (List ℕ) → List ℕ → Told
 told asked answers stored = record { asked = asked; answers = answers; stored = stored }
 
+-- what a link is asked with an order: to store its image at its nodes, with its version and first nonce
 abbrev pub asked_of : Order → Asked
 asked_of order = Store order.version order.nonce order.nodes order.image
 

@@ -14,6 +14,7 @@ node_at l leaf depth = (2 ^ l + leaf) / 2 ^ (l - depth)
 abbrev pub path : ℕ → ℕ → List ℕ
 path l leaf = map (node_at l leaf) (range_with_len 0 (l + 1))
 
+-- whether a node is on a leaf's path, in a tree of height l
 abbrev pub is_on_path : ℕ → ℕ → ℕ → Bool
 is_on_path l leaf node = list_any (nat_eq node) (path l leaf)
 

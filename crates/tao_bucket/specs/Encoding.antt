@@ -12,16 +12,19 @@ use Rattle.tao_base.specs.declared.storage.Entry.{Entry}
 use Rattle.tao_tag.specs.Tags.{hmac, tag_key}
 use Rattle.tao_tape.specs.Keystream.{xored}
 
+-- which block an entry is of
 abbrev pub id_of : Entry → ℕ
 id_of entry = entry.id
 
+-- the bytes of an entry's block
 abbrev pub value_of : Entry → List ℕ
 value_of entry = entry.value
 
--- a value of b bytes, and an entry with one
+-- a value of b bytes
 abbrev pub IsBlock : ℕ → List ℕ → Type 0
 IsBlock b value = length value ≡ b
 
+-- an entry whose value has b bytes
 abbrev pub HasBlock : ℕ → Entry → Type 0
 HasBlock b entry = length entry.value ≡ b
 

@@ -12,9 +12,11 @@ use Rattle.tao_base.specs.declared.storage.BucketFault.TheVariants.{Length, Form
 use Rattle.tao_bucket.specs.Encoding.{tail}
 use Rattle.tao_tape.specs.Keystream.{xored}
 
+-- the version in a bucket's header
 abbrev pub header_version : List ℕ → ℕ
 header_version bytes = from_be_bytes w32 (take 4 (drop 8 bytes))
 
+-- the nonce in a bucket's header
 abbrev pub header_nonce : List ℕ → ℕ
 header_nonce bytes = from_be_bytes w64 (take 8 (drop 12 bytes))
 
@@ -39,10 +41,11 @@ abbrev pub tail_fault : List ℕ → Shape → ℕ → List ℕ → Option Bucke
 tail_fault key s format bytes =
     if same (drop (slots_len s.z s.b) bytes) (tail key s.form format (take (slots_len s.z s.b) bytes)) then None else Some Tag
 
--- slot i of slots in clear, and its id field, which is one more than the id, or 0 in a dummy
+-- slot i of slots in clear, which have blocks of b bytes
 abbrev pub slot_at : ℕ → List ℕ → ℕ → List ℕ
 slot_at b slots i = take (4 + b) (drop (i * (4 + b)) slots)
 
+-- a slot's id field, which is one more than the id of its entry, or 0 in a dummy
 abbrev pub id_field : List ℕ → ℕ
 id_field slot = from_be_bytes w32 (take 4 slot)
 
@@ -63,9 +66,11 @@ abbrev pub field_before : ℕ → List ℕ → ℕ → Option ℕ
 field_before b slots zero = None
 field_before b slots (suc i) = Some (id_field (slot_at b slots i))
 
+-- the fault of slot i of slots in clear, by itself or behind the slot before it, in a store of n blocks of b bytes
 unfoldable pub fault_at : ℕ → ℕ → List ℕ → ℕ → Option BucketFault
 fault_at n b slots i = slot_fault n (field_before b slots i) (slot_at b slots i)
 
+-- the first item of a list, where there is one
 abbrev pub first_of : {X : Type 0} → List X → Option X
 first_of [] = None
 first_of (x ∷ xs) = Some x
@@ -87,6 +92,7 @@ bucket_fault key s want format bytes =
 unfoldable pub entry_of : List ℕ → Option Entry
 entry_of slot = if id_field slot == 0 then None else Some (record { id = id_field slot - 1; value = drop 4 slot })
 
+-- the entry of slot i of slots in clear, where it has one
 unfoldable pub entry_at : ℕ → List ℕ → ℕ → Option Entry
 entry_at b slots i = entry_of (slot_at b slots i)
 

@@ -10,16 +10,19 @@ pub record RoomState : Type 0 where
   pub b : ℕ
   pub held : Option Bucket
 
+-- a room for z blocks of b bytes with this bucket, or with none
 abbrev pub room_of : ℕ → ℕ → Option Bucket → RoomState
 room_of z b held = record { z = z; b = b; held = held }
 
+-- a room for z blocks of b bytes with no bucket
 abbrev pub empty_room : ℕ → ℕ → RoomState
 empty_room z b = room_of z b None
 
--- the same room with this bucket, or with none
+-- the same room with this bucket
 abbrev pub holding : RoomState → Bucket → RoomState
 holding room bucket = room_of room.z room.b (Some bucket)
 
+-- the same room with no bucket
 abbrev pub emptied : RoomState → RoomState
 emptied room = room_of room.z room.b None
 

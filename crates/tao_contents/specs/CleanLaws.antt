@@ -10,6 +10,7 @@ use Rattle.tao_contents.specs.Steps.{with_path, after_real_fetch, after_fake_fet
 abbrev pub CleanResidents : (ℕ → Bool) → (ℕ → Bool) → (ℕ → List Entry) → (ℕ → List Entry) → Type 0
 CleanResidents resident recent own newest = (w : ℕ) → 0 < w → resident w ≡ true → recent w ≡ false → own w ≡ newest w
 
+-- Every node that the proxy holds is clean, recent or not: it has the entries that were last written there.
 abbrev pub AreAllClean : (ℕ → Bool) → (ℕ → List Entry) → (ℕ → List Entry) → Type 0
 AreAllClean resident own newest = (w : ℕ) → 0 < w → resident w ≡ true → own w ≡ newest w
 
@@ -23,6 +24,7 @@ RealFetchKeepsClean = (s : Shape) (at : ℕ) (leaf : ℕ → ℕ) (resident rece
     → CleanResidents resident recent own newest
     → CleanResidents (with_path s.l at resident) (touching s.l at recent) (after_real_fetch s at leaf resident taken own b value) newest
 
+-- the same of a fetch for no block, of a fake arrival or a pad
 abbrev pub FakeFetchKeepsClean : Type 0
 FakeFetchKeepsClean = (s : Shape) (at : ℕ) (leaf : ℕ → ℕ) (resident recent : ℕ → Bool) (taken own newest : ℕ → List Entry) → CleanResidents resident recent own newest
     → CleanResidents (with_path s.l at resident) (touching s.l at recent) (after_fake_fetch s at leaf resident taken own) newest

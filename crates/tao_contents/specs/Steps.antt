@@ -24,6 +24,7 @@ found_copy l at contents b = first_copy (0 ∷ path l at) contents b
 abbrev pub value_or_zeros : Shape → Option (List ℕ) → List ℕ
 value_or_zeros s copy = unwrap_or copy (replicate s.b 0)
 
+-- the entry of block b with this value
 abbrev pub entry_of : ℕ → List ℕ → Entry
 entry_of b value = record { id = b; value = value }
 

@@ -58,6 +58,7 @@ pub record HasAtMostOne (l leaf b : ℕ) (value : List ℕ) (newest : ℕ → Li
   pub valued : (w : ℕ) → 0 < w → All (λ entry. entry.id ≡ b → entry.value ≡ value) (newest w)
   pub placed : (w : ℕ) → 0 < w → All (λ entry. entry.id ≡ b → is_on_path l leaf w ≡ true) (newest w)
 
+-- Where each node has its entries in rising id, fresh writes have each block at most once, with its value, on its path.
 abbrev pub FreshWritesCount : Type 0
 FreshWritesCount = (s : Shape) (leaf : ℕ → ℕ) (value : ℕ → List ℕ) (filled : ℕ → Bool) (newest : ℕ → List Entry) → ((w : ℕ) → Rises 0 (newest w))
     → FreshWrites s leaf value filled newest → (b : ℕ) → b < s.n → HasAtMostOne s.l (leaf b) b (value b) newest

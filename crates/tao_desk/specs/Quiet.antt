@@ -54,6 +54,7 @@ pub record AreStamped (along : List ℕ) (version nonce : ℕ) (buckets : List B
   pub nonces : map (λ bucket. bucket.nonce) buckets ≡ range_with_len nonce (length buckets)
   pub empty : All (λ bucket. bucket.entries ≡ []) buckets
 
+-- a bucket with this version and nonce, and with the node and the entries that it had
 abbrev pub stamped : Bucket → ℕ → ℕ → Bucket
 stamped bucket version nonce = record bucket { version = version; nonce = nonce }
 
@@ -71,6 +72,7 @@ pub record MayPlay (o : Opening) (n who : ℕ) (op : Op) : Type 0 where
 abbrev pub bucket_at : List Bucket → ℕ → Bucket
 bucket_at server w = slice_index_or server (w - 1) (empty_bucket 0 0 0)
 
+-- buckets without entries
 abbrev pub AreEmpty : List Bucket → Type 0
 AreEmpty buckets = All (λ bucket. bucket.entries ≡ []) buckets
 
@@ -99,6 +101,7 @@ pub record IsDesk (h : History) (tape : List ℕ) (blocks : List (List ℕ)) (pl
   pub path_empty : AreEmpty path
   pub within : n ≤ session_limit h.opening.shape
 
+-- One more operation that may be played keeps the desk quiet: its path is taken in from the server, stamped anew and stored.
 abbrev pub QuietStep : Type 0
 QuietStep = (o : Opening) (es : List Event) (n : ℕ) (server new : ℕ → Bucket) (client : ℕ) (op : Op) (word leaf nonce : ℕ) (buckets : List Bucket)
     → IsQuiet o es n server → MayPlay o n client op → leaf ≡ fetched_leaf o (Arrive client op word ∷ es) n

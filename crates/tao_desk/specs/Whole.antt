@@ -57,11 +57,12 @@ pub record PlaysOne (old new : History) (client : ℕ) (op : Op) (word : ℕ) : 
   pub events : new.events ≡ old.events ++ Arrive client op word ∷ Done (arrivals_of old) taken
       ∷ Issue (arrivals_of old + 1) nonce buckets ∷ Acked (arrivals_of old + 1) ∷ []
 
--- why an operation is refused, if it is: the session is full, there is no such block, or the value has another length
+-- what is wrong with an operation itself, if anything: there is no such block, or the value has another length
 abbrev pub op_refusal : Shape → Op → Option ArriveFault
 op_refusal s (Read id) = if nat_lt id s.n then None else Some NoBlock
 op_refusal s (Write id value) = if nat_lt id s.n then (if length value == s.b then None else Some BlockLength) else Some NoBlock
 op_refusal s Pad = None
 
+-- why a record's next operation is refused, if it is: the session is full, or else what is wrong with the operation itself
 abbrev pub refusal : History → Op → Option ArriveFault
 refusal h op = if nat_lt (arrivals_of h) (session_limit h.opening.shape) then op_refusal h.opening.shape op else Some SessionFull

@@ -31,6 +31,7 @@ pub record HandsWordsOn (o : Opening) (es : List Event) (block : ℕ) : Type 0 w
   pub next : (i : ℕ) → IsOpen es block i → next_word o es block ≡ o.shape.n + i
   pub quiet : IsQuiet es block → next_word o es block ≡ position_word o es block
 
+-- A record that follows lawfully hands the words of every block on.
 abbrev pub WordsAreHandedOn : Type 0
 WordsAreHandedOn = (o : Opening) (events : List Event) (block : ℕ) → FollowsLawfully o (reverse events) → HandsWordsOn o (reverse events) block
 
@@ -39,6 +40,7 @@ pub record FetchesPosition (o : Opening) (es : List Event) (block : ℕ) : Type 
   pub open_one : (i : ℕ) → IsOpen es block i → fetched_leaf o es i ≡ position o es block
   pub next_one : IsQuiet es block → leaf_at o es (next_word o es block) ≡ position o es block
 
+-- A record that follows lawfully fetches every block by its position.
 abbrev pub LeafIsPosition : Type 0
 LeafIsPosition = (o : Opening) (events : List Event) (block : ℕ) → FollowsLawfully o (reverse events) → FetchesPosition o (reverse events) block
 
@@ -47,6 +49,7 @@ pub record IsQueueFrom (es : List Event) (block i : ℕ) : Type 0 where
   pub waits : (j : ℕ) → j < arrived es → is_on es j block ≡ true → i ≤ j → settler es j ≡ i
   pub settled : (j : ℕ) → j < arrived es → is_on es j block ≡ true → is_settled es j ≡ nat_lt j i
 
+-- In any record, the real arrival under way on a block begins the block's queue.
 abbrev pub QueueOfBlock : Type 0
 QueueOfBlock = (events : List Event) (block i : ℕ) → IsOpen (reverse events) block i → IsQueueFrom (reverse events) block i
 
@@ -64,5 +67,6 @@ pub record IsRightValue (o : Opening) (es : List Event) (block : ℕ) : Type 0 w
   pub open_one : (i : ℕ) → IsOpen es block i → settled_value o es block ≡ plain_reply o es i
   pub quiet : IsQuiet es block → settled_value o es block ≡ block_at (array_now o es) block
 
+-- In any record, the settled value of every block is the right one.
 abbrev pub RightValue : Type 0
 RightValue = (o : Opening) (events : List Event) (block : ℕ) → IsRightValue o (reverse events) block

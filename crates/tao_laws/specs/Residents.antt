@@ -22,6 +22,7 @@ pub record CountsPeriods (o : Opening) (es : List Event) : Type 0 where
   pub whole : OwesNone o es → issues es ≡ dones es / o.shape.k
   pub touched : (node : ℕ) → last_touch o es node ≤ dones es
 
+-- A record that follows lawfully keeps this count of periods.
 abbrev pub PeriodsAreCounted : Type 0
 PeriodsAreCounted = (o : Opening) (events : List Event) → FollowsLawfully o (reverse events) → CountsPeriods o (reverse events)
 
@@ -38,6 +39,7 @@ pub record IsWrittenAfter (o : Opening) (es : List Event) (version node : ℕ) :
   pub touched : (version - 1) * o.shape.k < last_touch o es node
   pub newest : version ≤ newest_version es node
 
+-- Each node of each write-back is written after such a touch, in a record that follows lawfully.
 abbrev pub WrittenAfterTouch : Type 0
 WrittenAfterTouch = (o : Opening) (events : List Event) (version node : ℕ) → FollowsLawfully o (reverse events) → is_issued (reverse events) version node ≡ true
     → IsWrittenAfter o (reverse events) version node
@@ -48,6 +50,7 @@ pub record IsExact (o : Opening) (es : List Event) (node : ℕ) : Type 0 where
   pub version : last_touch o es node ≤ issues es * o.shape.k → newest_version es node ≡ div_ceil (last_touch o es node) o.shape.k
   pub recent : IsRecent o es node ↔ (newest_version es node * o.shape.k < last_touch o es node)
 
+-- Every node has its exact version, in a record that follows lawfully.
 abbrev pub ExactVersion : Type 0
 ExactVersion = (o : Opening) (events : List Event) (node : ℕ) → FollowsLawfully o (reverse events) → IsExact o (reverse events) node
 
@@ -57,6 +60,7 @@ pub record WritesResidents (o : Opening) (es now : List Event) (buckets : List B
   pub resident : is_some (bucket_of node buckets) ≡ true → is_resident o es node ≡ true
   pub away : is_resident o es node ≡ false → newest_write o now node ≡ newest_write o es node
 
+-- Each write-back that lawfully comes next writes just the recent nodes, which are residents.
 abbrev pub IssuedIsResident : Type 0
 IssuedIsResident = (o : Opening) (events : List Event) (version nonce : ℕ) (buckets : List Bucket) (node : ℕ)
     → FollowsLawfully o (with_one_more events (Issue version nonce buckets))

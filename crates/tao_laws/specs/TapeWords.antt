@@ -14,6 +14,7 @@ pub record AreDistinct (blocks n : ℕ) (used next : ℕ → ℕ) : Type 0 where
   pub used_below : (i : ℕ) → i < n → used i < blocks + n
   pub next_below : (b : ℕ) → b < blocks → next b < blocks + n
 
+-- In a record that follows lawfully, the places that arrivals use and the next places of the blocks are so distinct.
 abbrev pub DistinctWords : Type 0
 DistinctWords = (o : Opening) (events : List Event) → FollowsLawfully o (reverse events)
     → AreDistinct o.shape.n (arrived (reverse events)) (word_used o (reverse events)) (next_word o (reverse events))

@@ -14,6 +14,7 @@ pub record HasSameKinds (first second : History) : Type 0 where
   pub used : (i : ℕ) → word_used first.opening (reverse first.events) i ≡ word_used second.opening (reverse second.events) i
   pub next : (block : ℕ) → next_word first.opening (reverse first.events) block ≡ next_word second.opening (reverse second.events) block
 
+-- Two records of one shape with the same operations agree in all of this, whatever their words are.
 abbrev pub KindsNeedNoWord : Type 0
 KindsNeedNoWord = (first second : History) → IsOneShape first second → ops first.events ≡ ops second.events → HasSameKinds first second
 
@@ -32,6 +33,7 @@ pub record IsTwin (first second : History) : Type 0 where
   pub one_to_one : IsOneToOne (first.opening.shape.n + arrived (reverse first.events)) (moved first second)
   pub used : (i : ℕ) → i < arrived (reverse first.events) → moved first second (word_used first.opening (reverse first.events) i) ≡ word_used second.opening (reverse second.events) i
 
+-- Two records of one shape that follow lawfully have such a twin permutation.
 abbrev pub PermutationIsOneToOne : Type 0
 PermutationIsOneToOne = (first second : History) → FollowsLawfully first.opening (reverse first.events) → FollowsLawfully second.opening (reverse second.events)
     → IsOneShape first second → IsTwin first second

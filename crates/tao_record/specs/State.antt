@@ -52,13 +52,15 @@ pub record AreBucketsOf (s : Shape) (most : ℕ) (buckets : List Bucket) : Type 
   pub few : length buckets ≤ most
   pub each : All (IsBucketOf s) buckets
 
--- buckets that a Done, and that an Issue may have
+-- buckets that a Done may have
 abbrev pub FitDone : Shape → List Bucket → Type 0
 FitDone s taken = AreBucketsOf s (done_len s) taken
 
+-- buckets that an Issue may have
 abbrev pub FitIssue : Shape → List Bucket → Type 0
 FitIssue s buckets = AreBucketsOf s (issue_len s) buckets
 
+-- whether an event is a Fault
 abbrev pub is_fault : Event → Bool
 is_fault (Arrive client op word) = false
 is_fault (Done arrival taken) = false
@@ -66,5 +68,6 @@ is_fault (Issue version nonce buckets) = false
 is_fault (Acked version) = false
 is_fault (Fault cause) = true
 
+-- whether a Fault is among some events
 abbrev pub has_fault : List Event → Bool
 has_fault events = list_any is_fault events

@@ -7,6 +7,7 @@ pub record Drawn : Type 0 where
   pub source : List ℕ
   pub place : ℕ
 
+-- a tape of this source that goes on at this place
 abbrev pub drawn : List ℕ → ℕ → Drawn
 drawn source place = record { source = source; place = place }
 
@@ -14,6 +15,7 @@ drawn source place = record { source = source; place = place }
 abbrev pub key_word : List ℕ → ℕ → ℕ
 key_word key j = stream_word key 0 j
 
+-- how many of the 2^64 - 1 words of a key are left from a place on
 abbrev pub key_left : List ℕ → ℕ → ℕ
 key_left key place = 2 ^ 64 - 1 - place
 
@@ -21,6 +23,7 @@ key_left key place = 2 ^ 64 - 1 - place
 abbrev pub list_word : List ℕ → ℕ → ℕ
 list_word words j = slice_index words j
 
+-- how many words of a list are left from a place on
 abbrev pub list_left : List ℕ → ℕ → ℕ
 list_left words place = length words - place
 
@@ -31,6 +34,7 @@ either_word (zero ∷ key) j = key_word key j
 either_word (suc zero ∷ words) j = list_word words j
 either_word (suc (suc _) ∷ _) j = 0
 
+-- how many words of such a tape are left from a place on; none where its source begins with neither 0 nor 1
 abbrev pub either_left : List ℕ → ℕ → ℕ
 either_left [] place = 0
 either_left (zero ∷ key) place = key_left key place

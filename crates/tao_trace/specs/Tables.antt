@@ -44,6 +44,7 @@ pub record IsSlot (o : Opening) (es : List Event) (block : ℕ) (slot : Slot) : 
   pub last : slot.last ≡ last_on es block
   pub value : slot.value.now ≡ block_at (array_now o es) block
 
+-- the tables fit these events, the newest first: a row for each arrival, a slot for each block, and how many answers are released
 pub record AreTables (o : Opening) (es : List Event) (told : List Told) (slots : List Slot) (count : ℕ) : Type 0 where
   pub arrivals : length told ≡ arrived es
   pub each : (i : ℕ) (d : Told) → i < length told → IsTold o es i (slice_index_or told i d)
@@ -60,6 +61,7 @@ pub record IsNext (h : History) (place : ℕ) (e : Event) : Type 0 where
 
 -- ---- one more arrival
 
+-- whether an operation is a pad
 abbrev pub is_pad_op : Op → Bool
 is_pad_op (Read id) = false
 is_pad_op (Write id value) = false
@@ -77,6 +79,7 @@ value_after block (Read id) value = value
 value_after block (Write id written) value = if id == block then written else value
 value_after block Pad value = value
 
+-- A new arrival moves a block's slot: a real one on the block is now its last, and what it writes there is its value.
 pub record IsMoved (op : Op) (arrival : ℕ) (real : Bool) (block : ℕ) (old new : Slot) : Type 0 where
   pub last : new.last ≡ (if real && names block op then Some arrival else old.last)
   pub value : new.value.now ≡ value_after block op old.value.now
@@ -87,6 +90,7 @@ pub record Fit (h : History) (place : ℕ) (told : List Told) (slots : List Slot
   pub follows : FollowsLawfully h.opening (reverse h.events)
   pub tables : AreTables h.opening (events_before h place) told slots count
 
+-- the tables fit the events of their record before their place
 abbrev pub IsAt : Tables → Type 0
 IsAt t = Fit t.history.now.history t.place t.told.items t.slots.items t.released
 
@@ -108,6 +112,7 @@ word_fetched o es (Read id) word = if real_now es (Read id) then word_at o es (n
 word_fetched o es (Write id value) word = if real_now es (Read id) then word_at o es (next_word o es id) else word
 word_fetched o es Pad word = word
 
+-- this event is the next one of the record that the tables are of
 abbrev pub NextOf : Tables → Event → Type 0
 NextOf t e = IsNext t.history.now.history t.place e
 
@@ -117,17 +122,20 @@ NamesBelow n (Read id) = id < n
 NamesBelow n (Write id value) = id < n
 NamesBelow n Pad = ⊤
 
+-- a new arrival has so moved the slot of each block
 abbrev pub AreMoved : Op → ℕ → Bool → List Slot → List Slot → Type 0
 AreMoved op arrival real old new = (block : ℕ) (d : Slot) → block < length old → IsMoved op arrival real block (slice_index_or old block d) (slice_index_or new block d)
 
 -- ---- one more Done
 
+-- The Done of an arrival marks row i: it is done where it is the row of that arrival or was done before, and has all else as it was.
 pub record IsMarked (arrival i : ℕ) (old new : Told) : Type 0 where
   pub client : new.client ≡ old.client
   pub word : new.word ≡ old.word
   pub done : new.done ≡ ((arrival == i) || old.done)
   pub reply : option_map (λ value. value.now) new.reply ≡ option_map (λ value. value.now) old.reply
 
+-- the Done of an arrival has so marked the row of each arrival
 abbrev pub AreMarked : ℕ → List Told → List Told → Type 0
 AreMarked arrival old new = (i : ℕ) (d : Told) → i < length old → IsMarked arrival i (slice_index_or old i d) (slice_index_or new i d)
 

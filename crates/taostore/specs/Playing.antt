@@ -13,6 +13,7 @@ use Rattle.taostore.specs.declared.playing.Played.{Played}
 use Rattle.taostore.specs.declared.playing.Played.TheVariants.{Whole, Part, Nothing}
 use Rattle.tao_desk.specs.Whole.{started, arrivals_of, PlaysOne, IsSound}
 
+-- blocks with a load's value in place of the block that it names; as they were where there is no such block
 abbrev pub put_load : List (List ℕ) → Entry → List (List ℕ)
 put_load blocks entry = slice_set blocks entry.id entry.value
 
@@ -25,6 +26,7 @@ abbrev pub words_of : Option (List ℕ) → List ℕ → ℕ → List ℕ
 words_of (Some words) key count = words
 words_of None key count = map (key_word key) (range_with_len 0 count)
 
+-- a script's tape: the words that it gives, or else of its key's words one for each block and each step
 abbrev pub tape_of : Script → List ℕ
 tape_of script = words_of script.tape script.key (script.params.n + length script.steps)
 

@@ -9,11 +9,13 @@ use Rattle.tao_text.specs.declared.script.Script.{Script}
 use Rattle.tao_text.specs.declared.script.Step.{Step}
 use Rattle.tao_text.specs.declared.script.What.{What}
 
+-- whether this is form 1, of a store without tags
 abbrev pub is_one : Form → Bool
 is_one One = true
 is_one Two = false
 is_one Turn = false
 
+-- whether an operation is on a block; a pad is on none
 abbrev pub is_on_block : Op → Bool
 is_on_block (Op.Read id) = true
 is_on_block (Op.Write id value) = true
