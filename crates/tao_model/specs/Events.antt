@@ -52,6 +52,7 @@ acks (Issue version nonce buckets ∷ es) = acks es
 acks (Acked version ∷ es) = acks es + 1
 acks (Fault cause ∷ es) = acks es
 
+-- whether something has failed: there is a Fault among the events
 abbrev pub has_fault : List Event → Bool
 has_fault [] = false
 has_fault (Arrive client op word ∷ es) = has_fault es
@@ -84,6 +85,7 @@ names block (Read id) = id == block
 names block (Write id value) = id == block
 names block Pad = false
 
+-- whether an operation is a pad, which is on no block
 abbrev pub is_pad_op : Op → Bool
 is_pad_op (Read id) = false
 is_pad_op (Write id value) = false

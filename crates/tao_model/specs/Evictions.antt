@@ -33,6 +33,7 @@ LoadSpot = (s : Shape) (leaf : ℕ → ℕ) (contents : ℕ → List Entry) (b :
 
 -- ---- the load
 
+-- one block of the array as an entry
 abbrev pub block_entry : List (List ℕ) → ℕ → Entry
 block_entry blocks id = record { id = id; value = block_at blocks id }
 
@@ -44,6 +45,7 @@ block_entries n blocks = map (block_entry blocks) (range_with_len 0 n)
 abbrev pub load_contents : Shape → (ℕ → ℕ) → List (List ℕ) → ℕ → List Entry
 load_contents s leaf blocks = one_pass (may_load s leaf) (node_count s.l) s.z (block_entries s.n blocks)
 
+-- the bucket that node w is loaded with: version 0, nonce w, and the contents of w
 abbrev pub first_bucket : (ℕ → List Entry) → ℕ → Bucket
 first_bucket contents w = record { node = w; version = 0; nonce = w; entries = contents w }
 
@@ -66,6 +68,8 @@ OneLoad = (s : Shape) (leaf : ℕ → ℕ) (blocks : List (List ℕ)) (loaded : 
 
 -- ---- the eviction
 
+-- What an eviction along a path leaves, by each block's leaf and the old contents: what stash and path have is gathered and put back in one
+-- pass, and the nodes off the path keep what they have.
 abbrev pub evicted : Shape → List ℕ → (ℕ → ℕ) → (ℕ → List Entry) → ℕ → List Entry
 evicted s path leaf old w =
     if list_any (λ v. v == w) (0 ∷ path) then one_pass (may_evict s.l path leaf old) (node_count s.l) s.z (gathered_from old (0 ∷ path)) w else old w
@@ -99,6 +103,7 @@ pub record LiesOnce (l : ℕ) (path : List ℕ) (leaf : ℕ) (b : ℕ) (value : 
   pub there : look b (contents node) ≡ Some value
   pub alone : (w : ℕ) → list_any (λ v. v == w) (0 ∷ path) ≡ true → (w ≡ node → ⊥) → look b (contents w) ≡ None
 
+-- so it is after any eviction, for each block that had a copy in the stash or on the path
 abbrev pub FirstCopyStays : Type 0
 FirstCopyStays = (s : Shape) (path : List ℕ) (leaf : ℕ → ℕ) (old new : ℕ → List Entry) (b : ℕ) (value : List ℕ) → IsEvicted s path leaf old new
     → first_copy (0 ∷ path) old b ≡ Some value → LiesOnce s.l path (leaf b) b value new

@@ -57,6 +57,8 @@ IsAwayOn o es fetch node = (is_resident o es node ≡ false)
     × (((fetch < arrived es) × (is_done es fetch ≡ false) × (fetches o es fetch node ≡ true))
     ⊎ ((leaf : ℕ) × (leaf < 2 ^ o.shape.l) × (fetch ≡ 2 ^ 32 + leaf) × (is_on_path o.shape.l leaf node ≡ true) × (dones es ≡ arrived es) × (acks es ≡ issues es)))
 
+-- A cause that can be: a damaged or a stale bucket is of a node that this fetch needs from the server, and a stale one has another version
+-- than the node's newest write. Any link may fail, at any time.
 abbrev pub MayFail : Opening → List Event → Cause → Type 0
 MayFail o es (Damaged fetch node fault) = IsAwayOn o es fetch node
 MayFail o es (Stale fetch node wanted found) = IsAwayOn o es fetch node × (wanted ≡ newest_version es node) × (found ≢ wanted)

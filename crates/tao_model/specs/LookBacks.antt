@@ -18,6 +18,7 @@ use Rattle.tao_model.specs.Lawful.{FollowsLawfully, touched_after}
 
 -- ---- Dones
 
+-- the arrival whose path came in with this event, where it is a Done
 abbrev pub done_of : Event → Option ℕ
 done_of (Arrive client op word) = None
 done_of (Done arrival taken) = Some arrival
@@ -45,6 +46,7 @@ TouchedAreNodes = (o : Opening) (events : List Event) (number : ℕ) → Follows
 
 -- ---- write-backs
 
+-- what this event wrote, where it is a write-back
 abbrev pub buckets_of : Event → Option (List Bucket)
 buckets_of (Arrive client op word) = None
 buckets_of (Done arrival taken) = None
@@ -65,6 +67,7 @@ pub record IsNewest (o : Opening) (events : List Event) (node : ℕ) : Type 0 wh
   pub version : IsGreatest (λ v. is_some (written_at o events v node)) (issues (reverse events)) (newest_version (reverse events) node)
   pub bucket : newest_write o (reverse events) node ≡ written_at o events (newest_version (reverse events) node) node
 
+-- so it is for every node, in a record that follows lawfully
 abbrev pub NewestIsGreatest : Type 0
 NewestIsGreatest = (o : Opening) (events : List Event) (node : ℕ) → FollowsLawfully o (reverse events) → IsNewest o events node
 
@@ -91,6 +94,7 @@ pub record FetchesLast (o : Opening) (events : List Event) (block i : ℕ) : Typ
   pub is_last : IsLast (is_real_on (reverse events) block) i last
   pub leaf : fetched_leaf o (reverse events) i ≡ leaf_of o.shape.l (option_map_or (word_of (reverse events)) last (slice_index o.words block))
 
+-- so it is for every real arrival on a block of the store
 abbrev pub RealFetchesLast : Type 0
 RealFetchesLast = (o : Opening) (events : List Event) (block i : ℕ) → block < o.shape.n → i < arrived (reverse events) → is_on (reverse events) i block ≡ true
     → is_real (reverse events) i ≡ true → FetchesLast o events block i
@@ -110,6 +114,7 @@ pub record IsPosition (o : Opening) (events : List Event) (block : ℕ) : Type 0
   pub is_last : IsLast (has_moved (reverse events) block) (arrived (reverse events)) last
   pub leaf : position o (reverse events) block ≡ leaf_of o.shape.l (option_map_or (word_of (reverse events)) last (slice_index o.words block))
 
+-- so it is for every block of the store, in a record that follows lawfully
 abbrev pub PositionIsLast : Type 0
 PositionIsLast = (o : Opening) (events : List Event) (block : ℕ) → FollowsLawfully o (reverse events) → block < o.shape.n → IsPosition o events block
 

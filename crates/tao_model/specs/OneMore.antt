@@ -63,6 +63,7 @@ pub record AfterAcked (o : Opening) (es now : List Event) (version : ℕ) : Type
   pub positions : SamePositions o es now
   pub released : released now ≡ released es
 
+-- A Fault leaves nodes, positions and the released count as they were.
 pub record AfterFault (o : Opening) (es now : List Event) : Type 0 where
   pub nodes : SameNodes o es now
   pub positions : SamePositions o es now
@@ -72,22 +73,27 @@ pub record AfterFault (o : Opening) (es now : List Event) : Type 0 where
 abbrev pub with_one_more : List Event → Event → List Event
 with_one_more events e = reverse (events ++ e ∷ [])
 
+-- where a record with one more arrival follows lawfully, `AfterArrive` says what that arrival is and what it changes
 abbrev pub OneMoreArrive : Type 0
 OneMoreArrive = (o : Opening) (events : List Event) (client : ℕ) (op : Op) (word : ℕ) → FollowsLawfully o (with_one_more events (Arrive client op word))
     → AfterArrive o (reverse events) (with_one_more events (Arrive client op word)) op word
 
+-- the same of one more Done, by `AfterDone`
 abbrev pub OneMoreDone : Type 0
 OneMoreDone = (o : Opening) (events : List Event) (arrival : ℕ) (taken : List Bucket) → FollowsLawfully o (with_one_more events (Done arrival taken))
     → AfterDone o (reverse events) (with_one_more events (Done arrival taken)) arrival
 
+-- the same of one more write-back, by `AfterIssue`
 abbrev pub OneMoreIssue : Type 0
 OneMoreIssue = (o : Opening) (events : List Event) (version nonce : ℕ) (buckets : List Bucket) → FollowsLawfully o (with_one_more events (Issue version nonce buckets))
     → AfterIssue o (reverse events) (with_one_more events (Issue version nonce buckets)) buckets
 
+-- the same of one more acknowledgement, by `AfterAcked`
 abbrev pub OneMoreAcked : Type 0
 OneMoreAcked = (o : Opening) (events : List Event) (version : ℕ) → FollowsLawfully o (with_one_more events (Acked version))
     → AfterAcked o (reverse events) (with_one_more events (Acked version)) version
 
+-- the same of one more Fault, by `AfterFault`
 abbrev pub OneMoreFault : Type 0
 OneMoreFault = (o : Opening) (events : List Event) (cause : Cause) → FollowsLawfully o (with_one_more events (Fault cause))
     → AfterFault o (reverse events) (with_one_more events (Fault cause))

@@ -36,9 +36,11 @@ deepest passes (suc m) = if passes (m + 1) then m + 1 else deepest passes m
 abbrev pub spot : (ℕ → ℕ → Bool) → ℕ → ℕ → (ℕ → List Entry) → ℕ → ℕ
 spot may m z contents b = deepest (λ w. may b w && nat_lt (length (contents w)) z) m
 
+-- the contents with an entry more, behind those that this node, or the stash, has
 abbrev pub put_at : (ℕ → List Entry) → ℕ → Entry → ℕ → List Entry
 put_at contents at entry w = if at == w then contents w ++ entry ∷ [] else contents w
 
+-- one step of the pass: the entry goes to its spot among what the earlier ones have left free
 abbrev pub put_next : (ℕ → ℕ → Bool) → ℕ → ℕ → (ℕ → List Entry) → Entry → ℕ → List Entry
 put_next may m z contents entry = put_at contents (spot may m z contents entry.id) entry
 
@@ -58,6 +60,7 @@ pub record Handed : Type 0 where
   pub taken : List Entry
   pub rest : List Entry
 
+-- the stash so divided: what is taken, and what stays
 abbrev pub handed : List Entry → List Entry → Handed
 handed taken rest = record { taken = taken; rest = rest }
 

@@ -84,6 +84,7 @@ word_used o (Issue version nonce buckets ∷ es) i = word_used o es i
 word_used o (Acked version ∷ es) i = word_used o es i
 word_used o (Fault cause ∷ es) i = word_used o es i
 
+-- the leaf of the word at this place of the tape
 abbrev pub leaf_at : Opening → List Event → ℕ → ℕ
 leaf_at o es place = leaf_of o.shape.l (word_at o es place)
 

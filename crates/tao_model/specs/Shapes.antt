@@ -41,6 +41,7 @@ used_places o es = map (word_used o es) (range_with_len 0 (arrived es))
 abbrev pub unused_places : Opening → List Event → List ℕ
 unused_places o es = filter (λ place. not (list_any (λ used. used == place) (used_places o es))) (range_with_len 0 (o.shape.n + arrived es))
 
+-- the places of the tape, first those that arrivals use, arrival after arrival, and then the unused ones, rising
 abbrev pub all_places : Opening → List Event → List ℕ
 all_places o es = used_places o es ++ unused_places o es
 

@@ -11,6 +11,7 @@ use Rattle.tao_model.specs.declared.trace.Request.TheVariants.{Load, Fetch, Stor
 use Rattle.tao_model.specs.Events.{arrived}
 use Rattle.tao_model.specs.Requests.{fetched_leaf}
 
+-- the nodes of these buckets, in their order
 abbrev pub nodes_in : List Bucket → List ℕ
 nodes_in buckets = map (λ bucket. bucket.node) buckets
 

@@ -23,11 +23,13 @@ use Rattle.tao_model.specs.Trace.{nodes_in}
 
 -- ---- the opening
 
+-- the form of the store: with tags, or with tags in the write-backs only; form 1, without tags, has no line
 abbrev pub form_line : Form → List ℕ
 form_line One = []
 form_line Two = codes "form 2\n"
 form_line Turn = codes "form turn\n"
 
+-- no byte is other than 0
 abbrev pub is_zero : List ℕ → Bool
 is_zero bytes = list_all (λ byte. byte == 0) bytes
 
@@ -35,20 +37,24 @@ is_zero bytes = list_all (λ byte. byte == 0) bytes
 abbrev pub first_line : List (List ℕ) → ℕ → List ℕ
 first_line blocks id = if is_zero (block_at blocks id) then [] else hex_line (codes "first") (id ∷ []) (block_at blocks id)
 
+-- the parameters: height, blocks in a bucket, bytes in a block, number of blocks, period
 abbrev pub tree_line : Shape → List ℕ
 tree_line s = words_line (codes "tree") (s.l ∷ s.z ∷ s.b ∷ s.n ∷ s.k ∷ [])
 
+-- parameters and form, the first values that aren't all zero, ids rising, and how many nodes were loaded
 abbrev pub opening_lines : Opening → List ℕ
 opening_lines o = ((tree_line o.shape ++ form_line o.shape.form) ++ flat_map (first_line o.first) (range_with_len 0 (length o.first)))
     ++ words_line (codes "load") (node_count o.shape.l ∷ [])
 
 -- ---- events; those before are newest first
 
+-- what was asked, each word behind a space: read, write or pad, the block, and in hex the value that is written
 abbrev pub op_words : Op → List ℕ
 op_words (Read id) = codes " read" ++ spaced id
 op_words (Write id value) = (codes " write" ++ spaced id) ++ spaced_hex value
 op_words Pad = codes " pad"
 
+-- the arrival of this number: who asked, and what
 abbrev pub arrive_line : ℕ → ℕ → Op → List ℕ
 arrive_line i client op = ended (((codes "arrive" ++ spaced i) ++ spaced client) ++ op_words op)
 
@@ -60,6 +66,7 @@ reply_line o es i = if is_pad es i then [] else hex_line (codes "reply") (i ∷ 
 abbrev pub reply_lines : Opening → List Event → ℕ → List ℕ
 reply_lines o es from = flat_map (reply_line o es) (range_with_len from (released es - from))
 
+-- the word for what is wrong with the bytes of a bucket
 abbrev pub fault_name : BucketFault → List ℕ
 fault_name bucket_faults.Length = codes "Length"
 fault_name bucket_faults.Format = codes "Format"
@@ -70,6 +77,7 @@ fault_name bucket_faults.Order = codes "Order"
 fault_name bucket_faults.Dummy = codes "Dummy"
 fault_name bucket_faults.Tag = codes "Tag"
 
+-- a bucket that was refused: of which fetch and node, and why; of a link that failed there is no line
 abbrev pub cause_line : Cause → List ℕ
 cause_line (Damaged fetch node fault) = ended (((codes "refused" ++ spaced fetch) ++ spaced node) ++ (codes " damaged " ++ fault_name fault))
 cause_line (Stale fetch node wanted found) = ended ((((codes "refused" ++ spaced fetch) ++ spaced node) ++ codes " stale") ++ (spaced wanted ++ spaced found))
@@ -117,6 +125,7 @@ acks_in (Fault cause ∷ rest) = acks_in rest
 
 -- ---- the close
 
+-- a block of the final array: its id, and its value in hex
 abbrev pub block_line : List (List ℕ) → ℕ → List ℕ
 block_line blocks id = hex_line (codes "block") (id ∷ []) (block_at blocks id)
 

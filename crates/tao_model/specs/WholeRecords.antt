@@ -65,6 +65,7 @@ pub record FaultsAreLawful (o : Opening) (events : List Event) : Type 0 where
   pub last : (p : ℕ) (cause : Cause) → IsAt events p (Fault cause) → p + 1 ≡ length events
   pub named : (p : ℕ) (cause : Cause) → IsAt events p (Fault cause) → MayFail o (before events p) cause
 
+-- a list of events is lawful as a whole where its events of each kind are
 pub record IsLawfulWhole (o : Opening) (events : List Event) : Type 0 where
   pub arrivals : ArrivalsAreLawful o events
   pub dones : DonesAreLawful o events

@@ -30,9 +30,11 @@ four_blocks words = opening (shape 2 2 4 4 4 One) words (zero ∷ zero ∷ zero 
 abbrev pub reads_of_one : List Event
 reads_of_one = Arrive 0 (Read 0) 3 ∷ Arrive 1 (Read 0) 2 ∷ Arrive 2 (Read 0) 1 ∷ Arrive 3 (Read 0) 0 ∷ []
 
+-- the other play: each of the four clients reads a block of its own
 abbrev pub reads_of_four : List Event
 reads_of_four = Arrive 0 (Read 0) 1 ∷ Arrive 1 (Read 1) 2 ∷ Arrive 2 (Read 2) 3 ∷ Arrive 3 (Read 3) 3 ∷ []
 
+-- where a place of the tape of the reads of one block goes in the tape of the reads of four
 abbrev pub twin_place : ℕ → ℕ
 twin_place place = twin_permutation (four_blocks (0 ∷ 1 ∷ 2 ∷ 3 ∷ [])) (reverse reads_of_one) (four_blocks (0 ∷ 2 ∷ 1 ∷ 0 ∷ [])) (reverse reads_of_four) place
 

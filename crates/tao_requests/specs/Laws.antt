@@ -42,6 +42,7 @@ pub record Follows (events : List Event) (requests : List Request) : Type 0 wher
 abbrev pub KindIsReal : Type 0
 KindIsReal = (events : List Event) (requests : List Request) (op : Op) → Follows events requests → is_real_kind (kind_now requests op) ≡ real_now (reverse events) op
 
+-- where nothing has happened there are no requests
 abbrev pub FollowsNone : Type 0
 FollowsNone = Follows [] []
 
@@ -67,5 +68,6 @@ pub record FollowsOthers (events : List Event) (requests : List Request) : Type 
   pub acked : (version : ℕ) → Follows (events ++ Acked version ∷ []) requests
   pub fault : (cause : Cause) → Follows (events ++ Fault cause ∷ []) requests
 
+-- so it is for all requests that follow a record: with one of these events they follow it too
 abbrev pub FollowsFurther : Type 0
 FollowsFurther = (events : List Event) (requests : List Request) → Follows events requests → FollowsOthers events requests

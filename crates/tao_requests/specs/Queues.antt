@@ -18,9 +18,11 @@ use Rattle.tao_requests.specs.Rooms.{IsRoom, FitsIn}
 abbrev pub last_on : List (Option ℕ) → ℕ → Option ℕ
 last_on lasts block = slice_index_or lasts block None
 
+-- what the request of this number has while it waits: the next one on its block, and room for its answer; past the last one neither
 abbrev pub wait_at : List Wait → ℕ → Wait
 wait_at list i = slice_index_or list i (record { next = None; room = [] })
 
+-- the last request of a queue, where it has one, is among the first so many
 abbrev pub IsWithin : Option ℕ → ℕ → Type 0
 IsWithin last len = IfSome last (λ k. k < len)
 
@@ -54,9 +56,11 @@ pub record LeavesOthers (block : ℕ) (requests : List Request) (old new : List 
   pub next : (i : ℕ) → (wait_at new i).next ≡ (wait_at old i).next
   pub others : (i : ℕ) → is_on_at requests block i ≡ false → wait_at new i ≡ wait_at old i
 
+-- whether the request of this number has no answer yet; past the last one none waits
 abbrev pub waits_at : List Request → ℕ → Bool
 waits_at requests i = waits (request_at requests i)
 
+-- whether the request of this number fetches for its block; past the last one none does
 abbrev pub is_real_at : List Request → ℕ → Bool
 is_real_at requests i = is_real_kind (request_at requests i).kind
 
@@ -91,11 +95,13 @@ kind_entering lasts (Read block) = kind_after (last_on lasts block)
 kind_entering lasts (Write block value) = kind_after (last_on lasts block)
 kind_entering lasts Pad = Fake
 
+-- the last request of each queue once this one has entered that of its block
 abbrev pub lasts_entered : List (Option ℕ) → Op → ℕ → List (Option ℕ)
 lasts_entered lasts (Read block) number = slice_set lasts block (Some number)
 lasts_entered lasts (Write block value) number = slice_set lasts block (Some number)
 lasts_entered lasts Pad number = lasts
 
+-- the requests before this one once it has entered: the one that was last in the queue knows it as the next
 abbrev pub waits_entered : List Wait → List (Option ℕ) → Op → ℕ → List Wait
 waits_entered list lasts (Read block) number = linked list (last_on lasts block) number
 waits_entered list lasts (Write block value) number = linked list (last_on lasts block) number

@@ -12,6 +12,7 @@ value_after value (Read block) = value
 value_after value (Write block written) = written
 value_after value Pad = value
 
+-- the request, with this value as its answer
 abbrev pub answered : Request → List ℕ → Request
 answered request value = record request { answer = Some value }
 
@@ -32,6 +33,7 @@ value_after_all block value (request ∷ rest) =
 abbrev pub settled_from : ℕ → ℕ → List ℕ → List Request → List Request
 settled_from first block value requests = take first requests ++ answered_all block value (drop first requests)
 
+-- the block's value after the requests from this number on
 abbrev pub value_from : ℕ → ℕ → List ℕ → List Request → List ℕ
 value_from first block value requests = value_after_all block value (drop first requests)
 

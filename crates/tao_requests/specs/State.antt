@@ -15,10 +15,12 @@ pub record RequestsState : Type 0 where
   pub requests : List Request
   pub spare : ℕ
 
+-- whether a request of this kind fetches for its block
 abbrev pub is_real_kind : Kind → Bool
 is_real_kind Real = true
 is_real_kind Fake = false
 
+-- whether a request has no answer yet
 abbrev pub waits : Request → Bool
 waits request = is_none request.answer
 
@@ -26,6 +28,7 @@ waits request = is_none request.answer
 abbrev pub is_under_way : ℕ → Request → Bool
 is_under_way block request = waits request && (is_real_kind request.kind && names block request.op)
 
+-- the kind of a new request on this block: fake while a real one on it is under way
 abbrev pub kind_on : List Request → ℕ → Kind
 kind_on requests block = if list_any (is_under_way block) requests then Fake else Real
 
@@ -41,6 +44,7 @@ first_answer (Read block) = None
 first_answer (Write block value) = None
 first_answer Pad = Some []
 
+-- a new request, of this operation and kind: a pad with its answer, another without one
 abbrev pub request_of : Op → Kind → Request
 request_of op kind = record { op = op; kind = kind; answer = first_answer op }
 
@@ -58,6 +62,7 @@ op_block (Read block) = block
 op_block (Write block value) = block
 op_block Pad = 0
 
+-- the block that the request of this number is on; 0 for a pad, and past the last one
 abbrev pub block_of : List Request → ℕ → ℕ
 block_of requests i = op_block (request_at requests i).op
 

@@ -2,6 +2,7 @@
 use Rattle.std.specs.Prelude.{◌≡◌, ℕ, ◌<◌, ◌≤◌, Bool, true, false, List, length}
 use Rattle.std.specs.List.{slice_index_or}
 
+-- whether the flag of this arrival is up; past the last flag none is
 abbrev pub is_done_in : List Bool → ℕ → Bool
 is_done_in flags arrival = slice_index_or flags arrival false
 

@@ -6,12 +6,15 @@ use Rattle.tao_base.specs.declared.storage.Bucket.{Bucket}
 use Rattle.tao_slots.specs.declared.slot.Links.{Links}
 use Rattle.tao_slots.specs.declared.slot.Slot.{Slot}
 
+-- the bucket of each slot, None where the slot is free
 abbrev pub buckets_in : List Slot → List (Option Bucket)
 buckets_in slots = map (λ slot. slot.bucket) slots
 
+-- the links of each slot, to the slots of its node's parent and children
 abbrev pub links_in : List Slot → List Links
 links_in slots = map (λ slot. slot.links) slots
 
+-- what each slot names as the free slot behind it
 abbrev pub nexts_in : List Slot → List (Option ℕ)
 nexts_in slots = map (λ slot. slot.next) slots
 
@@ -19,6 +22,7 @@ nexts_in slots = map (λ slot. slot.next) slots
 abbrev pub nodes_of : List (Option Bucket) → List (Option ℕ)
 nodes_of buckets = map (option_map (λ bucket. bucket.node)) buckets
 
+-- neither parent nor child has a slot
 abbrev pub no_links : Links
 no_links = record { parent = None; left = None; right = None }
 

@@ -42,6 +42,7 @@ pub record IsRelinked (old new : List Slot) (index : List (Option ℕ)) (at : Op
   pub kept : (i node : ℕ) → node_in old i ≡ Some node → IsRight old index i node → IsRight new index i node
   pub made : (i node : ℕ) → at ≡ Some i → node_in old i ≡ Some node → IsRight new index i node
 
+-- the index is right, and from each held node's slot the links go to those of its neighbours
 pub record IsLinked (slots : List Slot) (index : List (Option ℕ)) : Type 0 where
   pub indexed : IsIndexed slots index
   pub right : AreRight slots index

@@ -16,15 +16,19 @@ pub record SubtreeState : Type 0 where
   pub versions : List ℕ
   pub spare : ℕ
 
+-- the bucket of a node, where it is resident
 abbrev pub resident_at : SubtreeState → ℕ → Option Bucket
 resident_at state node = slice_index_or state.residents node None
 
+-- how many fetches under way cover a node
 abbrev pub count_at : SubtreeState → ℕ → ℕ
 count_at state node = slice_index state.counts node
 
+-- the number of the last fetch that has ended on a path with this node, from 1 on, or 0
 abbrev pub touch_at : SubtreeState → ℕ → ℕ
 touch_at state node = slice_index state.touches node
 
+-- the version of a node's last write-back, or 0
 abbrev pub version_at : SubtreeState → ℕ → ℕ
 version_at state node = slice_index state.versions node
 
