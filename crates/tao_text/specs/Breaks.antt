@@ -22,6 +22,7 @@ pub record Item : Type 0 where
 
 -- the parts of what was said, each where a line says something of it
 
+-- the parameters of a line `tree`, in form 1, where they keep the limits
 abbrev pub tree_of : Said → Option Shape
 tree_of (Said.Tree l z b n k) = result_ok (shape_of l z b n k)
 tree_of (Said.Form form) = None
@@ -32,6 +33,7 @@ tree_of (Said.Tape tape) = None
 tree_of (Said.Load entry) = None
 tree_of (Said.Step what) = None
 
+-- the form that a line `form` names
 abbrev pub form_of : Said → Option Form
 form_of (Said.Tree l z b n k) = None
 form_of (Said.Form form) = Some form
@@ -42,6 +44,7 @@ form_of (Said.Tape tape) = None
 form_of (Said.Load entry) = None
 form_of (Said.Step what) = None
 
+-- the bytes of a line `key`, however many
 abbrev pub key_of : Said → Option (List ℕ)
 key_of (Said.Tree l z b n k) = None
 key_of (Said.Form form) = None
@@ -52,6 +55,7 @@ key_of (Said.Tape tape) = None
 key_of (Said.Load entry) = None
 key_of (Said.Step what) = None
 
+-- the words of a line `tape`
 abbrev pub tape_of : Said → Option (List ℕ)
 tape_of (Said.Tree l z b n k) = None
 tape_of (Said.Form form) = None
@@ -62,6 +66,7 @@ tape_of (Said.Tape tape) = Some tape
 tape_of (Said.Load entry) = None
 tape_of (Said.Step what) = None
 
+-- the block's id and first value of a line `load`
 abbrev pub load_of : Said → Option Entry
 load_of (Said.Tree l z b n k) = None
 load_of (Said.Form form) = None
@@ -72,6 +77,7 @@ load_of (Said.Tape tape) = None
 load_of (Said.Load entry) = Some entry
 load_of (Said.Step what) = None
 
+-- the step that a line is
 abbrev pub step_of : Said → Option What
 step_of (Said.Tree l z b n k) = None
 step_of (Said.Form form) = None
@@ -86,9 +92,11 @@ step_of (Said.Step what) = Some what
 abbrev pub first_line : {A : Type 0} → (Said → Option A) → List Item → Option (ℕ × A)
 first_line part items = slice_get (filter_map (λ item. option_map (λ x. (item.line, x)) (part item.said)) items) 0
 
+-- what the first line that says something of a part says of it
 abbrev pub first_said : {A : Type 0} → (Said → Option A) → List Item → Option A
 first_said part items = option_map (λ at. at.1) (first_line part items)
 
+-- the parameters in the form that was named, or as they are where none was
 abbrev pub with_form : Option Form → Shape → Shape
 with_form None s = s
 with_form (Some form) s = in_form s form
@@ -97,6 +105,7 @@ with_form (Some form) s = in_form s form
 abbrev pub shape_said : List Item → Option Shape
 shape_said items = option_map (with_form (first_said form_of items)) (first_said tree_of items)
 
+-- whether a step has an arrival: `do` and `a` have one, a pad too
 abbrev pub is_arrival : What → Bool
 is_arrival (What.Do client op) = true
 is_arrival (What.A client op) = true
@@ -105,6 +114,7 @@ is_arrival (What.Done fetch) = false
 is_arrival (What.Put version bucket) = false
 is_arrival (What.Ack version) = false
 
+-- how many arrivals these lines have
 abbrev pub arrivals_said : List Item → ℕ
 arrivals_said items = count_by is_arrival (filter_map (λ item. step_of item.said) items)
 
@@ -131,11 +141,13 @@ HasNoHex words = Any (λ form. IsOfForm words form × Any (λ word. ¬ ((bytes :
 
 -- 5: a key hasn't 32 bytes, or a value not as many as a block
 
+-- a write's value isn't as long as a block; a read and a pad have no value
 abbrev pub HasOtherLength : Shape → Op → Type 0
 HasOtherLength s (Op.Read id) = ⊥
 HasOtherLength s (Op.Write id value) = length value ≢ s.b
 HasOtherLength s Op.Pad = ⊥
 
+-- the same for a step: it has an arrival, whose operation has such a value
 abbrev pub StepHasOtherLength : Shape → What → Type 0
 StepHasOtherLength s (What.Do client op) = HasOtherLength s op
 StepHasOtherLength s (What.A client op) = HasOtherLength s op
@@ -144,6 +156,7 @@ StepHasOtherLength s (What.Done fetch) = ⊥
 StepHasOtherLength s (What.Put version bucket) = ⊥
 StepHasOtherLength s (What.Ack version) = ⊥
 
+-- a line `key` hasn't 32 bytes, or the value of a load or a step isn't as long as a block
 abbrev pub IsLengthFault : Shape → Said → Type 0
 IsLengthFault s (Said.Tree l z b n k) = ⊥
 IsLengthFault s (Said.Form form) = ⊥
@@ -156,11 +169,13 @@ IsLengthFault s (Said.Step what) = StepHasOtherLength s what
 
 -- 6: the parameters are past a limit; a client is above 63, an id is none of the N, a depth is above L, a node is none of the tree
 
+-- the client is above 63, or the operation's id is none of the n; a pad has no id
 abbrev pub IsOutOfRange : Shape → ℕ → Op → Type 0
 IsOutOfRange s client (Op.Read id) = (63 < client) ⊎ (s.n ≤ id)
 IsOutOfRange s client (Op.Write id value) = (63 < client) ⊎ (s.n ≤ id)
 IsOutOfRange s client Op.Pad = 63 < client
 
+-- A client, id, depth or node of a step is out of range. The number of a fetch or a version may be any.
 abbrev pub StepIsOutOfRange : Shape → What → Type 0
 StepIsOutOfRange s (What.Do client op) = IsOutOfRange s client op
 StepIsOutOfRange s (What.A client op) = IsOutOfRange s client op
@@ -184,6 +199,7 @@ IsRangeFault so_far (Said.Step what) = MatchOption so_far ⊥ (λ s. StepIsOutOf
 
 -- 7: the line may not stand at its place. The lines come in this order, loads by rising ids; each but loads and steps comes once
 
+-- a line's place in that order; `seal` and `reopen`, which may stand nowhere, have 0
 abbrev pub place_of : Said → ℕ
 place_of (Said.Tree l z b n k) = 0
 place_of (Said.Form form) = 1
@@ -194,6 +210,7 @@ place_of (Said.Tape tape) = 3
 place_of (Said.Load entry) = 4
 place_of (Said.Step what) = 5
 
+-- A line may stand somewhere behind another: a step behind any, a load behind one of smaller id; any line behind one of smaller place.
 abbrev pub MayStandBehind : Said → Said → Type 0
 MayStandBehind (Said.Load entry) before = MatchOption (load_of before) (place_of before < 4) (λ last. last.id < entry.id)
 MayStandBehind (Said.Step what) before = ⊤
@@ -208,6 +225,7 @@ MayStand before said = IsSome (shape_said before) × All (λ item. MayStandBehin
 
 -- 8: a tape has fewer words than there are blocks, or an arrival finds no word left for it
 
+-- The step has an arrival, and the n blocks and the arrivals before have used up the words of `tape`. Without that line none lacks one.
 abbrev pub FindsNoWord : Shape → List Item → What → Type 0
 FindsNoWord s before (What.Do client op) = MatchOption (first_said tape_of before) ⊥ (λ tape. length tape ≤ s.n + arrivals_said before)
 FindsNoWord s before (What.A client op) = MatchOption (first_said tape_of before) ⊥ (λ tape. length tape ≤ s.n + arrivals_said before)
@@ -216,6 +234,7 @@ FindsNoWord s before (What.Done fetch) = ⊥
 FindsNoWord s before (What.Put version bucket) = ⊥
 FindsNoWord s before (What.Ack version) = ⊥
 
+-- a line `tape` has fewer words than there are blocks, or a step has an arrival without a word left for it
 abbrev pub IsShort : Shape → List Item → Said → Type 0
 IsShort s before (Said.Tree l z b n k) = ⊥
 IsShort s before (Said.Form form) = ⊥

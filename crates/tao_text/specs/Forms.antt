@@ -13,8 +13,8 @@ use Rattle.tao_text.specs.declared.script.What.{What}
 use Rattle.tao_text.specs.Values.{number_of, hex_of}
 use Rattle.tao_text.specs.Words.{words}
 
--- the next step, where the first gave a value
 infixl 10 ◌>>=◌
+-- the next step, where the first gave a value
 abbrev pub ◌>>=◌ : {A B : Type 0} → Result A TextKind → (A → Result B TextKind) → Result B TextKind
 Ok x >>= f = f x
 Err kind >>= f = Err kind
@@ -30,6 +30,7 @@ tree_line (l ∷ z ∷ b ∷ n ∷ k ∷ []) = do
   Ok (Said.Tree l z b n k)
 tree_line _ = Err Word
 
+-- the form that a word names, `1`, `2` or `turn`; any other word is the fault Word
 abbrev pub form_named : List ℕ → Result Form TextKind
 form_named name =
     if bytes_eq name (codes "1") then Ok One
@@ -52,6 +53,7 @@ unfoldable pub seal_line : List (List ℕ) → Result Said TextKind
 seal_line [] = Ok Said.Seal
 seal_line (word ∷ words) = Err Word
 
+-- the numbers that the words spell, or the fault Number where one spells none
 unfoldable pub numbers_of : List (List ℕ) → Result (List ℕ) TextKind
 numbers_of [] = Ok []
 numbers_of (word ∷ words) = do
@@ -72,6 +74,7 @@ load_line (id ∷ hex ∷ []) = do
   Ok (record { id = id; value = value })
 load_line _ = Err Word
 
+-- `C read ID`, by the word of the client and those behind `read`
 unfoldable pub read_words : List ℕ → List (List ℕ) → Result (ℕ × Op) TextKind
 read_words client (id ∷ []) = do
   client ← number_of client
@@ -79,6 +82,7 @@ read_words client (id ∷ []) = do
   Ok (client, Op.Read id)
 read_words client _ = Err Word
 
+-- `C write ID HEX`, by the word of the client and those behind `write`
 unfoldable pub write_words : List ℕ → List (List ℕ) → Result (ℕ × Op) TextKind
 write_words client (id ∷ hex ∷ []) = do
   client ← number_of client
@@ -87,6 +91,7 @@ write_words client (id ∷ hex ∷ []) = do
   Ok (client, Op.Write id value)
 write_words client _ = Err Word
 
+-- `C pad`, by the word of the client and those behind `pad`, of which there may be none
 unfoldable pub pad_words : List ℕ → List (List ℕ) → Result (ℕ × Op) TextKind
 pad_words client [] = do
   client ← number_of client

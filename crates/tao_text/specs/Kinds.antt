@@ -3,6 +3,7 @@ use Rattle.std.specs.Prelude.{ℕ, List, ◌++◌, codes, decimal}
 use Rattle.tao_text.specs.declared.faults.TextKind.{TextKind}
 use Rattle.tao_text.specs.declared.faults.TextKind.TheVariants.{NotText, Word, Number, Hex, Length, Range, Order, TapeShort, TooLong, Memory}
 
+-- the name that a kind of fault is told by
 abbrev pub kind_name : TextKind → List ℕ
 kind_name NotText = codes "NotText"
 kind_name Word = codes "Word"
@@ -15,6 +16,7 @@ kind_name TapeShort = codes "TapeShort"
 kind_name TooLong = codes "TooLong"
 kind_name Memory = codes "Memory"
 
+-- a fault as it is printed: `line LINE: KIND`
 abbrev pub fault_text : ℕ → TextKind → List ℕ
 fault_text line kind = codes "line " ++ decimal line ++ codes ": " ++ kind_name kind
 

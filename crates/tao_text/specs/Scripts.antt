@@ -20,6 +20,7 @@ abbrev pub empty_script : ℕ → Shape → Script
 empty_script number s =
     record { params = s; tree_line = number; form_line = None; key = replicate 32 0; seal = false; reopen = None; tape = None; loads = []; steps = [] }
 
+-- what is known behind the line `tree`: its parameters and its number, and neither a key nor a tape yet
 abbrev pub empty_draft : ℕ → Shape → Draft
 empty_draft number s = record { script = empty_script number s; has_key = false; words_left = None }
 
@@ -40,30 +41,37 @@ opening number (Said.Step what) = Err Order
 abbrev pub no_loads : Draft → Bool
 no_loads d = length d.script.loads == 0 && length d.script.steps == 0
 
+-- the same of a line `tape`: none stands before, and no load and no step
 abbrev pub no_tape : Draft → Bool
 no_tape d = is_none d.script.tape && no_loads d
 
+-- the same of a line `key`: none stands before, and no tape, load or step
 abbrev pub no_key : Draft → Bool
 no_key d = not d.has_key && no_tape d
 
+-- the same of a line `form`: behind `tree` nothing was said yet
 abbrev pub no_form : Draft → Bool
 no_form d = is_none d.script.form_line && no_key d
 
+-- A line `form` of this number sets the parameters' form. It is Range where that makes the tree too large, Order where it may not stand.
 unfoldable pub add_form : Draft → ℕ → Form → Result Draft TextKind
 add_form d number form = do
   s ← or_range (in_form_or_fault d.script.params form)
   if no_form d then Ok (record d { script = record d.script { params = s; form_line = Some number } }) else Err Order
 
+-- A line `key` puts its bytes in place of the zeros. It is Length where they aren't 32, Order where it may not stand.
 unfoldable pub add_key : Draft → List ℕ → Result Draft TextKind
 add_key d bytes =
     if length bytes == 32 then (if no_key d then Ok (record d { script = record d.script { key = bytes }; has_key = true }) else Err Order)
     else Err Length
 
+-- A line `tape` leaves the arrivals all its words but n, the blocks' own. It is Order where it may not stand, TapeShort below n words.
 unfoldable pub add_tape : Draft → List ℕ → Result Draft TextKind
 add_tape d tape =
     if no_tape d then (if nat_lt (length tape) d.script.params.n then Err TapeShort else Ok (record d { script = record d.script { tape = Some tape }; words_left = Some (length tape - d.script.params.n) }))
     else Err Order
 
+-- the id is greater than that of the last load, where there is one
 abbrev pub is_above : Option Entry → ℕ → Bool
 is_above None id = true
 is_above (Some last) id = nat_lt last.id id
@@ -72,6 +80,7 @@ is_above (Some last) id = nat_lt last.id id
 abbrev pub may_load : Draft → ℕ → Bool
 may_load d id = length d.script.steps == 0 && is_above (slice_get d.script.loads (length d.script.loads - 1)) id
 
+-- A line `load` gives a block its first value. It is Length or Range where it doesn't fit, Order where it may not stand.
 unfoldable pub add_load : Draft → Entry → Result Draft TextKind
 add_load d entry = do
   fits ← entry_fits d.script.params entry
@@ -83,9 +92,11 @@ one_less None = Ok None
 one_less (Some zero) = Err TapeShort
 one_less (Some (suc words)) = Ok (Some words)
 
+-- what a step leaves of the words: one less where it has an arrival, and else all
 abbrev pub words_behind : What → Option ℕ → Result (Option ℕ) TextKind
 words_behind what words_left = if is_arrival what then one_less words_left else Ok words_left
 
+-- A step at this line comes behind the others. It is Length or Range where it doesn't fit, TapeShort where its arrival has no word left.
 unfoldable pub add_step : Draft → ℕ → What → Result Draft TextKind
 add_step d number what = do
   fits ← step_fits d.script.params what
@@ -105,10 +116,12 @@ add d number (Said.Tape tape) = add_tape d tape
 add d number (Said.Load entry) = add_load d entry
 add d number (Said.Step what) = add_step d number what
 
+-- a line that says something, of this number: the first one opens, and each later one is added
 abbrev pub next : Option Draft → ℕ → Said → Result Draft TextKind
 next None number said = opening number said
 next (Some d) number said = add d number said
 
+-- the same of any line: a skipped one leaves what was read
 abbrev pub next_or_same : Option Draft → ℕ → Option Said → Result (Option Draft) TextKind
 next_or_same draft number None = Ok draft
 next_or_same draft number (Some said) = next draft number said >>= λ d. Ok (Some d)
@@ -119,6 +132,7 @@ line_with draft number line = do
   said ← line_said line
   next_or_same draft number said
 
+-- the fault of this kind at this line
 abbrev pub fault_at : ℕ → TextKind → TextFault
 fault_at line kind = record { line = line; kind = kind }
 
@@ -127,6 +141,7 @@ abbrev pub ended : Option Draft → ℕ → Result Script TextFault
 ended None number = Err (fault_at number Order)
 ended (Some d) number = Ok d.script
 
+-- the rest of the reading, from what the line of this number leaves; or its fault, where it has one
 abbrev pub after_line : ℕ → Result (Option Draft) TextKind → (Option Draft → Result Script TextFault) → Result Script TextFault
 after_line number (Ok draft) rest = rest draft
 after_line number (Err kind) rest = Err (fault_at number kind)
@@ -140,14 +155,16 @@ lines_with draft number (line ∷ rest) = after_line number (line_with draft num
 unfoldable pub reading : List ℕ → Result Script TextFault
 reading bytes = if nat_le (length bytes) (2 ^ 24) then lines_with None 1 (lines bytes) else Err (fault_at 0 TooLong)
 
--- a function answers what a reading says, or that memory ran out
+-- the fault that memory ran out, which is of the text as a whole
 abbrev pub no_memory : TextFault
 no_memory = fault_at 0 Memory
 
+-- a function that reads the line of this number answers what the reading says, the draft then being `new`, or that memory ran out
 abbrev pub GivesLine : Option Draft → ℕ → Result Unit TextFault → Result (Option Draft) TextKind → Type 0
 GivesLine new number (Ok done) read = read ≡ Ok new
 GivesLine new number (Err fault) read = (fault ≡ no_memory) ⊎ ((kind : TextKind) × (read ≡ Err kind) × (fault ≡ fault_at number kind))
 
+-- a function that reads a whole text answers what the reading says, or that memory ran out
 abbrev pub GivesScript : Result Script TextFault → Result Script TextFault → Type 0
 GivesScript (Ok script) read = read ≡ Ok script
 GivesScript (Err fault) read = (fault ≡ no_memory) ⊎ (read ≡ Err fault)

@@ -22,6 +22,7 @@ IsHex word bytes = (str_to_ascii_lowercase word ≡ encode_lower bytes) × IsByt
 abbrev pub IsTape : List ℕ → Type 0
 IsTape tape = (0 < length tape) × All (λ n. n < 2 ^ 32) tape
 
+-- the word behind `form` that names a form
 abbrev pub form_word : Form → List ℕ
 form_word One = codes "1"
 form_word Two = codes "2"

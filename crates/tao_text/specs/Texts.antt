@@ -26,6 +26,7 @@ abbrev pub ReadsLines : List Item → ℕ → List (List ℕ) → List Item → 
 ReadsLines before number [] after = after ≡ before
 ReadsLines before number (line ∷ rest) after = (items : List Item) × ReadsLine before number line items × ReadsLines (before ++ items) (number + 1) rest after
 
+-- the step that a line is, with the line's number
 abbrev pub step_at : Item → Option Step
 step_at item = option_map (λ what. record { line = item.line; what = what }) (step_of item.said)
 
@@ -73,14 +74,17 @@ FirstBreak bytes fault = ((2 ^ 24 < length bytes) × (fault ≡ record { line = 
 
 -- the limits that every script keeps
 
+-- a load has a value as long as a block and an id of the n
 abbrev pub IsEntryOf : Shape → Entry → Type 0
 IsEntryOf s entry = (length entry.value ≡ s.b) × (entry.id < s.n)
 
+-- a client of at most 63 asks for a block of the n, and writes a value as long as a block; a pad is on no block
 abbrev pub IsCallOf : Shape → ℕ → Op → Type 0
 IsCallOf s client (Op.Read id) = (client ≤ 63) × (id < s.n)
 IsCallOf s client (Op.Write id value) = (length value ≡ s.b) × (client ≤ 63) × (id < s.n)
 IsCallOf s client Op.Pad = client ≤ 63
 
+-- the arrival of a step is within the limits, a depth is at most l, a node is one of the tree; fetches and versions may be any
 abbrev pub IsStepOf : Shape → What → Type 0
 IsStepOf s (What.Do client op) = IsCallOf s client op
 IsStepOf s (What.A client op) = IsCallOf s client op
@@ -91,9 +95,12 @@ IsStepOf s (What.Put version None) = ⊤
 IsStepOf s (What.Put version (Some node)) = (1 ≤ node) × (node ≤ node_count s.l)
 IsStepOf s (What.Ack version) = ⊤
 
+-- how many arrivals these steps have
 abbrev pub arrivals_in : List Step → ℕ
 arrivals_in steps = count_by (λ step. is_arrival step.what) steps
 
+-- A script's parameters are within their limits and its key has 32 bytes. Its tape, where it has one, is of words below 2 ^ 32, enough for
+-- all blocks and arrivals. Its loads, of rising ids, and its steps are within the parameters.
 pub record IsScript (script : Script) : Type 0 where
   pub params : IsShape script.params
   pub key : length script.key ≡ 32

@@ -16,6 +16,7 @@ number_below limit word = let n = digits_value 10 word in if bytes_eq word (deci
 unfoldable pub number_of : List ℕ → Result ℕ TextKind
 number_of word = ok_or (number_below (2 ^ 32) word) Number
 
+-- the bytes, or the fault Hex, whatever kept the word from being hex
 abbrev pub or_no_hex : Result (List ℕ) FromHexError → Result (List ℕ) TextKind
 or_no_hex (Ok bytes) = Ok bytes
 or_no_hex (Err e) = Err Hex

@@ -42,17 +42,19 @@ pub record LinkState : Type 0 where
 abbrev pub has_room : LinkState → ℕ → Bool
 has_room s buckets = nat_lt 0 s.room && nat_le buckets s.buckets
 
--- a call is counted; it is told, and there is room for one call less
+-- a call is counted
 abbrev pub called : LinkState → LinkState
 called s = record s { calls = one_more s.calls }
 
+-- a call is counted and told, and there is room for one call less and so many buckets fewer
 abbrev pub telling : LinkState → Asked → ℕ → LinkState
 telling s asked buckets = record (called s) { told = told (s.told.asked ++ asked ∷ []) s.told.answers s.told.stored; room = s.room - 1; buckets = s.buckets - buckets }
 
--- a fetch was answered by this path; a store was acknowledged
+-- a fetch was answered by this path
 abbrev pub with_answer : LinkState → List ℕ → LinkState
 with_answer s path = record s { told = told s.told.asked (s.told.answers ++ path ∷ []) s.told.stored }
 
+-- a store of this version was acknowledged
 abbrev pub with_stored : LinkState → ℕ → LinkState
 with_stored s version = record s { told = told s.told.asked s.told.answers (s.told.stored ++ version ∷ []) }
 

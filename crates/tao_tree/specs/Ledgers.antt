@@ -14,6 +14,7 @@ pub record LedgerState : Type 0 where
   pub path_len : ℕ
   pub bucket_len : ℕ
 
+-- the ledger of a link that was just made, for paths and buckets of these lengths: nothing is told, and there is no room
 abbrev pub nothing : ℕ → ℕ → LedgerState
 nothing path_len bucket_len = record { told = told [] [] []; calls = 0; buckets = 0; path_len = path_len; bucket_len = bucket_len }
 
@@ -24,12 +25,13 @@ asked_in (Fetched id leaf ∷ notes) nodes images = Fetch id leaf ∷ asked_in n
 asked_in (Sent version nonce count len ∷ notes) nodes images =
     Store version nonce (take count nodes) (take len images) ∷ asked_in notes (drop count nodes) (drop len images)
 
--- how many nodes, and how many bytes of images, the notes are of
+-- how many nodes the notes are of
 abbrev pub noted_nodes : List Note → ℕ
 noted_nodes [] = 0
 noted_nodes (Fetched id leaf ∷ notes) = noted_nodes notes
 noted_nodes (Sent version nonce count len ∷ notes) = count + noted_nodes notes
 
+-- how many bytes of images the notes are of
 abbrev pub noted_bytes : List Note → ℕ
 noted_bytes [] = 0
 noted_bytes (Fetched id leaf ∷ notes) = noted_bytes notes
@@ -40,6 +42,7 @@ pub record AreNoted (notes : List Note) (nodes images : List ℕ) : Type 0 where
   pub nodes_all : length nodes ≡ noted_nodes notes
   pub bytes_all : length images ≡ noted_bytes notes
 
+-- there are so many bytes
 abbrev pub HasLen : ℕ → List ℕ → Type 0
 HasLen len bytes = length bytes ≡ len
 

@@ -11,6 +11,7 @@ pub record Held : Type 0 where
   pub version : ℕ
   pub bytes : List ℕ
 
+-- these bytes as a node holds them, with the version that they were applied with
 abbrev pub holding : ℕ → List ℕ → Held
 holding version bytes = record { version = version; bytes = bytes }
 
@@ -19,12 +20,15 @@ pub record TreeState : Type 0 where
   pub shape : Shape
   pub held : List (Option Held)
 
+-- a new tree: no node holds a bucket
 abbrev pub empty_tree : Shape → TreeState
 empty_tree s = record { shape = s; held = replicate (node_count s.l) None }
 
+-- what the node of a number from 1 on holds; nothing above the last node
 abbrev pub held_at : TreeState → ℕ → Option Held
 held_at tree node = slice_index_or tree.held (node - 1) None
 
+-- the version that a node's bucket was applied with
 abbrev pub held_version : Held → ℕ
 held_version held = held.version
 
@@ -33,6 +37,7 @@ abbrev pub bytes_of : ℕ → Option Held → List ℕ
 bytes_of len None = replicate len 0
 bytes_of len (Some held) = held.bytes
 
+-- the bytes that a node of a tree tells: its bucket's, or as many zeros as a bucket has bytes
 unfoldable pub bytes_at : TreeState → ℕ → List ℕ
 bytes_at tree node = bytes_of (bucket_len tree.shape) (held_at tree node)
 
@@ -54,11 +59,12 @@ applied tree version node bytes =
 abbrev pub path_bytes : TreeState → ℕ → List ℕ
 path_bytes tree leaf = flat_map (bytes_at tree) (path tree.shape.l leaf)
 
--- how nodes lie in memory: one behind another, and for each a version or none
+-- what a node holds whose bytes these are: nothing where it has no version
 abbrev pub held_of : List ℕ → Option ℕ → Option Held
 held_of bytes None = None
 held_of bytes (Some version) = Some (holding version bytes)
 
+-- how nodes lie in memory: one behind another, each of this length, and for each a version or none
 abbrev pub held_in : ℕ → List ℕ → List (Option ℕ) → List (Option Held)
 held_in len bytes [] = []
 held_in len bytes (v ∷ vs) = held_of (take len bytes) v ∷ held_in len (drop len bytes) vs
@@ -68,15 +74,17 @@ abbrev pub AreBlank : ℕ → List ℕ → List (Option ℕ) → Type 0
 AreBlank len bytes [] = Unit {0}
 AreBlank len bytes (v ∷ vs) = (take len bytes ≡ bytes_of len (held_of (take len bytes) v)) × AreBlank len (drop len bytes) vs
 
+-- a tree lies so in memory: for each node a version or none, and the bytes of a bucket, all zeros where there is no version
 pub record IsLaidOut (s : Shape) (bytes : List ℕ) (versions : List (Option ℕ)) : Type 0 where
   pub count : length versions ≡ node_count s.l
   pub len : length bytes ≡ length versions * bucket_len s
   pub blank : AreBlank (bucket_len s) bytes versions
 
--- the buckets of an image, and each of them at the node in its header
+-- bucket i of an image, counted from 0, each being of this length
 abbrev pub bucket_in : ℕ → List ℕ → ℕ → List ℕ
 bucket_in len image i = take len (drop (i * len) image)
 
+-- the buckets of an image, each of this length; a shorter rest is left out
 abbrev pub buckets_in : ℕ → List ℕ → List (List ℕ)
 buckets_in len image = map (bucket_in len image) (range_with_len 0 (length image / len))
 
@@ -86,6 +94,7 @@ pub record IsWhole (s : Shape) (image : List ℕ) : Type 0 where
   pub low : (i : ℕ) → i < length image / bucket_len s → 1 ≤ header_node (bucket_in (bucket_len s) image i)
   pub high : (i : ℕ) → i < length image / bucket_len s → header_node (bucket_in (bucket_len s) image i) ≤ node_count s.l
 
+-- a bucket is applied with this version at the node in its header
 abbrev pub bucket_applied : ℕ → TreeState → List ℕ → TreeState
 bucket_applied version tree bucket = applied tree version (header_node bucket) bucket
 

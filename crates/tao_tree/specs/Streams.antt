@@ -59,10 +59,11 @@ pub record ConsumesWrong (old new : Option (List ℕ)) (IsWanted : Message → T
   pub taken : Consumes old new came
   pub wrong : IsOtherLength len came ⊎ (EndsWithin len came new ⊎ IsOtherFrame IsWanted len came)
 
--- the wanted answer to a fetch, and to a store
+-- the wanted answer to a fetch: the path under its id, of so many bytes
 abbrev pub AnswersFetch : ℕ → ℕ → Message → Type 0
 AnswersFetch id len message = (image : List ℕ) × (length image ≡ len) × (message ≡ Path id image)
 
+-- the wanted answer to a store: its version is acknowledged
 abbrev pub AnswersStore : ℕ → Message → Type 0
 AnswersStore version message = message ≡ Stored version
 

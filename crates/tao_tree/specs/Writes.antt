@@ -4,11 +4,13 @@ use Rattle.tao_base.specs.Limits.{Shape}
 use Rattle.tao_base.specs.Tree.{node_count}
 use Rattle.tao_tree.specs.Nodes.{Held, TreeState, applied, empty_tree, held_at}
 
+-- a write at a node: a bucket's bytes, and their version
 pub record Write : Type 0 where
   pub version : ℕ
   pub node : ℕ
   pub bytes : List ℕ
 
+-- a tree after this write
 abbrev pub written : TreeState → Write → TreeState
 written tree w = applied tree w.version w.node w.bytes
 
@@ -16,6 +18,7 @@ written tree w = applied tree w.version w.node w.bytes
 abbrev pub tree_after : Shape → List Write → TreeState
 tree_after s writes = fold written (empty_tree s) writes
 
+-- the write is at a node of the tree
 abbrev pub IsInTree : Shape → Write → Type 0
 IsInTree s w = (1 ≤ w.node) × (w.node ≤ node_count s.l)
 
