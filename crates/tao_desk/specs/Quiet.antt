@@ -1,5 +1,5 @@
 -- The desk between two whole operations: every arrival is done, written back and acknowledged. The events are newest first.
-use Rattle.std.specs.Prelude.{◌≡◌, ℕ, ◌+◌, ◌-◌, ◌*◌, ◌<◌, ◌≤◌, true, false, List, [], ◌∷◌, map, length, take, reverse, slice_index, slice_index_or, slice_set, Some, All, ⊤}
+use Rattle.std.specs.Prelude.{◌≡◌, ℕ, ◌+◌, ◌-◌, ◌*◌, ◌<◌, ◌≤◌, true, false, List, [], ◌∷◌, map, length, take, reverse, slice_index, slice_index_or, slice_set, Some, All}
 use Rattle.std.specs.List.{range_with_len}
 use Rattle.std.specs.Option.{option_or}
 use Rattle.tao_base.specs.declared.calls.Op.{Op}
@@ -108,9 +108,3 @@ QuietStep = (o : Opening) (es : List Event) (n : ℕ) (server new : ℕ → Buck
     → nonce ≡ node_count o.shape.l + 1 + n * (o.shape.l + 1) → AreStamped (path o.shape.l leaf) (n + 1) nonce buckets
     → Stores (node_count o.shape.l) buckets server new
     → IsQuiet o (four es client op word (map server (path o.shape.l leaf)) nonce buckets) (n + 1) new
-
--- an operation is on a block below n, or on none
-abbrev pub NamesBelow : ℕ → Op → Type 0
-NamesBelow n (Read id) = id < n
-NamesBelow n (Write id value) = id < n
-NamesBelow n Pad = ⊤

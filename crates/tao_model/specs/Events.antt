@@ -1,6 +1,6 @@
 -- What a record has come to: how many events of each kind, and what is known of one arrival.
 -- Every function that looks back takes the events newest first. The record itself is oldest first: give it `reverse`.
-use Rattle.std.specs.Prelude.{ℕ, ◌+◌, ◌-◌, ◌==◌, nat_lt, Bool, true, false, ◌||◌, if◌then◌else◌, List, [], ◌∷◌, length, slice_index}
+use Rattle.std.specs.Prelude.{ℕ, ◌+◌, ◌-◌, ◌<◌, ◌==◌, nat_lt, Bool, true, false, ◌||◌, if◌then◌else◌, List, [], ◌∷◌, length, slice_index, ⊤}
 use Rattle.tao_base.specs.declared.calls.Op.{Op}
 use Rattle.tao_base.specs.declared.calls.Op.TheVariants.{Read, Write, Pad}
 use Rattle.tao_base.specs.declared.session.Event.{Event}
@@ -90,6 +90,12 @@ abbrev pub is_pad_op : Op → Bool
 is_pad_op (Read id) = false
 is_pad_op (Write id value) = false
 is_pad_op Pad = true
+
+-- an operation is on one of so many blocks, or is a pad
+abbrev pub NamesBelow : ℕ → Op → Type 0
+NamesBelow n (Read id) = id < n
+NamesBelow n (Write id value) = id < n
+NamesBelow n Pad = ⊤
 
 -- whether this arrival is on a block
 abbrev pub is_on : List Event → ℕ → ℕ → Bool

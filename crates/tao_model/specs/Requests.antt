@@ -13,13 +13,13 @@ abbrev pub any_below : (ℕ → Bool) → ℕ → Bool
 any_below passes zero = false
 any_below passes (suc n) = passes n || any_below passes n
 
--- no real arrival below n on the operation's block is under way; a pad is on no block
+-- No real arrival below n on the operation's block is under way. A pad is on no block, and it is never free.
 abbrev pub is_free : (ℕ → ℕ → Bool) → (ℕ → Bool) → (ℕ → Bool) → ℕ → Op → Bool
 is_free on real finished n (Read block) = not (any_below (λ i. on i block && (real i && not (finished i))) n)
 is_free on real finished n (Write block value) = not (any_below (λ i. on i block && (real i && not (finished i))) n)
 is_free on real finished n Pad = false
 
--- An arrival is real where every earlier real arrival on its block is done before it: its fetch is for its block. Else it is fake.
+-- An arrival on a block is real where every earlier real arrival on it is done before: its fetch is for its block. Else it is fake, as a pad is.
 abbrev pub is_real : List Event → ℕ → Bool
 is_real [] i = false
 is_real (Arrive client op word ∷ es) i = if i == arrived es then is_free (is_on es) (is_real es) (is_done es) (arrived es) op else is_real es i
@@ -32,7 +32,7 @@ is_real (Fault cause ∷ es) i = is_real es i
 abbrev pub real_now : List Event → Op → Bool
 real_now es op = is_free (is_on es) (is_real es) (is_done es) (arrived es) op
 
--- the last real arrival on a block
+-- the last real arrival on a block, or 0 where there is none
 abbrev pub last_real : List Event → ℕ → ℕ
 last_real [] block = 0
 last_real (Arrive client op word ∷ es) block = if real_now es op && names block op then arrived es else last_real es block

@@ -13,7 +13,7 @@ use Rattle.tao_model.specs.Trace.{request_trace}
 use Rattle.tao_model.specs.Shapes.{twin_permutation}
 use Rattle.tao_model.specs.Worked.{opening, history, zero, leaves, residents, write_backs_out_of_order}
 
--- two write-backs that are acknowledged the later first, the earlier one after it was sent again
+-- the requests where two write-backs are acknowledged the later first, and the first of all is sent again at the close
 abbrev pub TraceOutOfOrder : Type 0
 TraceOutOfOrder = request_trace write_backs_out_of_order (1 ∷ []) true
     ≡ Load 3 ∷ Fetch 0 0 ∷ Store 1 4 (1 ∷ 2 ∷ []) ∷ Fetch 1 1 ∷ Store 2 6 (1 ∷ 3 ∷ []) ∷ Fetch 2 1 ∷ Store 3 8 (1 ∷ 3 ∷ []) ∷ Again 1 4 (1 ∷ 2 ∷ []) ∷ Scan ∷ []

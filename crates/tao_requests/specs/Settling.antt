@@ -29,7 +29,7 @@ value_after_all block value [] = value
 value_after_all block value (request ∷ rest) =
     if names block request.op then value_after_all block (value_after value request.op) rest else value_after_all block value rest
 
--- the same for the requests from this number on
+-- the requests from this number on are so answered in turn, those before it stay
 abbrev pub settled_from : ℕ → ℕ → List ℕ → List Request → List Request
 settled_from first block value requests = take first requests ++ answered_all block value (drop first requests)
 

@@ -99,7 +99,7 @@ pub record HasPlaces (state : SubtreeState) : Type 0 where
   pub touches : length state.touches ≡ 2 ^ (state.shape.l + 1)
   pub versions : length state.versions ≡ 2 ^ (state.shape.l + 1)
 
--- the same of one node
+-- this node isn't resident any more, if it may leave
 pub record ForgetsOne (old new : SubtreeState) (version at : ℕ) : Type 0 where
   pub residents : (node : ℕ) → resident_at new node ≡ cond (nat_eq node at && may_leave old version node) None (resident_at old node)
   pub others : new ≡ record old { residents = new.residents; spare = new.spare }

@@ -37,11 +37,11 @@ opening number (Said.Tape tape) = Err Order
 opening number (Said.Load entry) = Err Order
 opening number (Said.Step what) = Err Order
 
--- whether a line of its kind or a later one doesn't stand before
+-- whether no load and no step stands before
 abbrev pub no_loads : Draft → Bool
 no_loads d = length d.script.loads == 0 && length d.script.steps == 0
 
--- the same of a line `tape`: none stands before, and no load and no step
+-- whether a line `tape` may stand: no other stands before, and no load and no step
 abbrev pub no_tape : Draft → Bool
 no_tape d = is_none d.script.tape && no_loads d
 

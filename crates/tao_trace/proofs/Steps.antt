@@ -11,14 +11,14 @@ use Rattle.tao_base.specs.declared.session.Event.TheVariants.{Arrive, Done, Issu
 use Rattle.tao_base.specs.declared.storage.Bucket.{Bucket}
 use Rattle.tao_base.specs.Session.{Opening}
 use Rattle.tao_base.specs.Array.{block_at, array_step, array_reply}
-use Rattle.tao_model.specs.Events.{arrived, names, is_done, is_pad}
+use Rattle.tao_model.specs.Events.{arrived, names, is_done, is_pad, is_pad_op}
 use Rattle.tao_model.specs.Requests.{real_now}
 use Rattle.tao_model.specs.Replies.{array_now, plain_reply, released}
 use Rattle.tao_model.specs.Lawful.{FollowsLawfully, IsOpening}
 use Rattle.tao_model.proofs.Stays.{pad_stays, client_stays, word_stays, reply_stays}
 use Rattle.tao_model.proofs.Places.{done_arrived}
 use Rattle.tao_model.proofs.Growth.{IsLeading, leading_is, leading_grows}
-use Rattle.tao_trace.specs.Tables.{reply_of, reply_for, value_after, is_pad_op, IsTold, IsSlot, AreTables, AreMoved, IsMoved, AreMarked, IsMarked}
+use Rattle.tao_trace.specs.Tables.{reply_of, reply_for, value_after, IsTold, IsSlot, AreTables, AreMoved, IsMoved, AreMarked, IsMarked}
 use Rattle.tao_trace.specs.declared.tables.Told.{Told}
 use Rattle.tao_trace.specs.declared.tables.Slot.{Slot}
 use Rattle.tao_trace.proofs.Following.{opening_of, after_arrive, array_len}

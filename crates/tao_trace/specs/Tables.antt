@@ -1,5 +1,5 @@
 -- What a printer knows of the events that it has printed: of each arrival, of each block, and how many answers are released.
-use Rattle.std.specs.Prelude.{◌≡◌, ℕ, ◌+◌, ◌==◌, ◌<◌, ◌≤◌, Bool, true, false, ◌&&◌, ◌||◌, if◌then◌else◌, List, [], ◌∷◌, length, map, All, reverse, Option, Some, None, ⊤}
+use Rattle.std.specs.Prelude.{◌≡◌, ℕ, ◌+◌, ◌==◌, ◌<◌, ◌≤◌, Bool, ◌&&◌, ◌||◌, if◌then◌else◌, List, [], ◌∷◌, length, map, All, reverse, Option, Some, None}
 use Rattle.std.specs.List.{slice_index_or}
 use Rattle.std.specs.Option.{option_map}
 use Rattle.tao_base.specs.declared.calls.Op.{Op}
@@ -61,12 +61,6 @@ pub record IsNext (h : History) (place : ℕ) (e : Event) : Type 0 where
 
 -- ---- one more arrival
 
--- whether an operation is a pad
-abbrev pub is_pad_op : Op → Bool
-is_pad_op (Read id) = false
-is_pad_op (Write id value) = false
-is_pad_op Pad = true
-
 -- the answer to an operation, where a pad has none
 abbrev pub reply_for : List (List ℕ) → Op → Option (List ℕ)
 reply_for blocks (Read id) = Some (block_at blocks id)
@@ -115,12 +109,6 @@ word_fetched o es Pad word = word
 -- this event is the next one of the record that the tables are of
 abbrev pub NextOf : Tables → Event → Type 0
 NextOf t e = IsNext t.history.now.history t.place e
-
--- the operation is on one of so many blocks, or is a pad
-abbrev pub NamesBelow : ℕ → Op → Type 0
-NamesBelow n (Read id) = id < n
-NamesBelow n (Write id value) = id < n
-NamesBelow n Pad = ⊤
 
 -- a new arrival has so moved the slot of each block
 abbrev pub AreMoved : Op → ℕ → Bool → List Slot → List Slot → Type 0

@@ -7,12 +7,12 @@ ghost use Rattle.tao_base.specs.Array.{block_at};
 ghost use Rattle.tao_base.specs.Limits.{IsShape};
 ghost use Rattle.tao_base.specs.Tree.{leaf_of};
 ghost use Rattle.tao_base.specs.declared.session.Event.TheVariants.{Arrive, Done};
-ghost use Rattle.tao_model.specs.Events.{arrived, is_done, word_at};
+ghost use Rattle.tao_model.specs.Events.{arrived, is_done, word_at, NamesBelow};
 ghost use Rattle.tao_model.specs.Requests.{real_now, next_word};
 ghost use Rattle.tao_model.specs.Replies.{array_now, released};
 ghost use Rattle.tao_model.specs.Lawful.{FollowsLawfully, IsInRange};
 ghost use Rattle.tao_trace.specs.Printing.{events_before};
-ghost use Rattle.tao_trace.specs.Tables.{IsAt, AreFirst, Stays, GoesOn, NextOf, AreMoved, NamesBelow, word_fetched, reply_for};
+ghost use Rattle.tao_trace.specs.Tables.{IsAt, AreFirst, Stays, GoesOn, NextOf, AreMoved, word_fetched, reply_for};
 
 use std::alloc::Global;
 use tao_base::{Block, NoMemory, Op};
