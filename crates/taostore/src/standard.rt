@@ -1,5 +1,5 @@
 //! Standard input as a source, and standard output as a sink. They tell no bytes, and count their faults.
-ghost use Rattle.std.specs.Prelude.{◌<◌, ◌≤◌, None, IfOk, length};
+ghost use Rattle.std.specs.Prelude.{◌≡◌, ◌<◌, ◌≤◌, None, IfOk, length};
 ghost use Rattle.std.specs.Io.{ReadsAtMost};
 ghost use Rattle.tao_base.specs.Causes.{TakesSome};
 ghost use Rattle.tao_base.specs.Memory.{no_half};
@@ -19,7 +19,9 @@ pub struct StdSource {
 
 impl StdSource {
     /// A source without faults so far.
-    pub fn new(stdin: Stdin) -> StdSource {
+    pub fn new(stdin: Stdin) -> StdSource
+        ensures { result.faults ≡ 0 }
+    {
         StdSource { stdin, faults: 0 }
     }
 }
@@ -63,7 +65,9 @@ pub struct StdSink {
 
 impl StdSink {
     /// A sink without faults so far.
-    pub fn new(stdout: Stdout) -> StdSink {
+    pub fn new(stdout: Stdout) -> StdSink
+        ensures { result.faults ≡ 0 }
+    {
         StdSink { stdout, faults: 0 }
     }
 }
