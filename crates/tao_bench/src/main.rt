@@ -35,7 +35,6 @@ fn main(rt: HostRuntime) -> Result<(), anyhow::Error> {
             "frames" => frames::checksum(alloc, count)?,
             "sequence" => sequence::checksum(alloc, count)?,
             "copy" => copy::checksum(alloc, count)?,
-            "copy-blocks" => copy::blocks_checksum(alloc, count)?,
             "flush" => flush::checksum(alloc, Turn::Evicts, count)?,
             "flush-rest" => flush::checksum(alloc, Turn::Rests, count)?,
             "flush-1024" => full_path::checksum(alloc, 1_024, count)?,
