@@ -20,13 +20,13 @@ use Rattle.tao_base.specs.Tree.{node_at, node_count, path, leaf_of}
 use Rattle.tao_model.specs.Events.{arrived, is_done, is_on, names, word_at}
 use Rattle.tao_model.specs.Requests.{any_below, is_real, real_now, next_word, word_for, leaf_at, fetched_leaf}
 use Rattle.tao_model.specs.Replies.{array_now}
-use Rattle.tao_model.specs.Residence.{bucket_of}
+use Rattle.tao_model.specs.Residence.{bucket_of, newest_write}
 use Rattle.tao_model.specs.Lawful.{FollowsLawfully, OwesNone, IsInRange}
 use Rattle.tao_model.specs.OneMore.{AfterArrive}
 use Rattle.tao_model.proofs.Stays.{newest_first, place_stays}
 use Rattle.tao_model.proofs.Places.{next_below}
 use Rattle.tao_model.proofs.OneMoreEvent.{one_more_arrive, own_word}
-use Rattle.tao_desk.specs.Whole.{DeskState, arrivals_of, words_left, IsSound, empty_bucket, empty_load}
+use Rattle.tao_desk.specs.Whole.{DeskState, arrivals_of, words_left, IsSound, PlaysOne, empty_bucket, empty_load}
 use Rattle.tao_desk.specs.Quiet.{IsQuiet, AreEmpty, four, AreStamped, Stores, MayPlay, IsDesk, bucket_at, placed}
 use Rattle.tao_desk.proofs.QuietStep.{quiet_step, none_below, all_between, all_nodes, nodes_map}
 use Rattle.tao_desk.proofs.PathList.{path_climbs}
@@ -207,6 +207,16 @@ gathered_empty h tape array words server room n leaf d small =
     (all_between (λ w. (bucket_at server w).entries ≡ []) 1 (1 + node_count h.opening.shape.l) (path h.opening.shape.l leaf) (path_climbs h.opening.shape.l leaf small)
     (λ w low high. (q.served w low (omega arith)).empty))
 
+pub gathered_written : (h : History) (tape : List ℕ) (array : List (List ℕ)) (words : List ℕ) (server room : List Bucket) (n leaf : ℕ) → IsDesk h tape array words server room n
+    → leaf < 2 ^ h.opening.shape.l
+    → All (λ b. newest_write h.opening (reverse h.events) b.node ≡ Some b) (map (bucket_at server) (path h.opening.shape.l leaf))
+gathered_written h tape array words server room n leaf d small =
+    let q = d.quiet in
+    All-map (λ b. newest_write h.opening (reverse h.events) b.node ≡ Some b) (bucket_at server) (path h.opening.shape.l leaf)
+    (all_between (λ w. newest_write h.opening (reverse h.events) (bucket_at server w).node ≡ Some (bucket_at server w)) 1 (1 + node_count h.opening.shape.l)
+    (path h.opening.shape.l leaf) (path_climbs h.opening.shape.l leaf small)
+    (λ w low high. let s = q.served w low (omega arith) in ap (newest_write h.opening (reverse h.events)) s.node ∙ s.written))
+
 pub gathered_len : (server : List Bucket) (l leaf : ℕ) → length (map (bucket_at server) (path l leaf)) ≡ l + 1
 gathered_len server l leaf = length-map (path l leaf) (bucket_at server) ∙ length-map-range_with_len (node_at l leaf) 0 (l + 1)
 
@@ -228,6 +238,40 @@ gathered_ready p h h1 tape array words server sliced room taken n leaf shape sam
         (ap nodes_in gathered ∙ gathered_nodes h tape array words server room n leaf d low, low),
       ),
     )
+
+-- what is taken in is the newest write of each node
+taken_written : (p : Shape) (h : History) (tape : List ℕ) (array : List (List ℕ)) (words : List ℕ) (server sliced room taken : List Bucket) (n leaf : ℕ)
+    → p ≡ h.opening.shape → IsDesk h tape array words server room n → leaf < 2 ^ p.l → sliced ≡ server → taken ≡ map (bucket_at sliced) (path p.l leaf)
+    → All (λ b. newest_write h.opening (reverse h.events) b.node ≡ Some b) taken
+taken_written p h tape array words server sliced room taken n leaf shape d small slice is =
+    let gathered : taken ≡ map (bucket_at server) (path h.opening.shape.l leaf) =
+    is ∙ ap (λ s. map (bucket_at s) (path p.l leaf)) slice ∙ ap (λ s. map (bucket_at server) (path s.l leaf)) shape in
+    subst (All (λ b. newest_write h.opening (reverse h.events) b.node ≡ Some b)) (sym gathered)
+    (gathered_written h tape array words server room n leaf d (subst (λ s. leaf < 2 ^ s.l) shape small))
+
+-- the four events are those of one whole operation
+pub plays_one : (p : Shape) (h h1 h' : History) (tape slice : List ℕ) (array : List (List ℕ)) (words : List ℕ) (server sliced room taken path' : List Bucket)
+    (n k client : ℕ) (op : Op) (leaf first : ℕ)
+    → p ≡ h.opening.shape → h1 ≡ h → IsDesk h tape array words server room n → leaf < 2 ^ p.l → sliced ≡ server → taken ≡ map (bucket_at sliced) (path p.l leaf)
+    → k ≡ p.n → slice ≡ tape → h'.opening ≡ h1.opening
+    → h'.events ≡ h1.events ++ Arrive client op (slice_index slice (k + n)) ∷ Done n taken ∷ Issue (n + 1) first path' ∷ Acked (n + 1) ∷ []
+    → AreStamped (nodes_in taken) (n + 1) first path' → PlaysOne h h' client op (slice_index tape (h.opening.shape.n + arrivals_of h))
+plays_one p h h1 h' tape slice array words server sliced room taken path' n k client op leaf first shape same d small sliced_is is blocks slice_is opening events stamped =
+    let arrived : n ≡ arrivals_of h = sym d.quiet.arrived in
+    let word : slice_index slice (k + n) ≡ slice_index tape (h.opening.shape.n + arrivals_of h) =
+    ap (λ s. slice_index s (k + n)) slice_is ∙ ap (λ m. slice_index tape (m + n)) (blocks ∙ ap (λ s. s.n) shape)
+    ∙ ap (λ i. slice_index tape (h.opening.shape.n + i)) arrived in
+    record {
+      taken = taken;
+      nonce = first;
+      buckets = path';
+      opening = opening ∙ ap (λ g. g.opening) same;
+      events = events ∙ ap (λ g. g.events ++ Arrive client op (slice_index slice (k + n)) ∷ Done n taken ∷ Issue (n + 1) first path' ∷ Acked (n + 1) ∷ []) same
+          ∙ ap (λ w. h.events ++ Arrive client op w ∷ Done n taken ∷ Issue (n + 1) first path' ∷ Acked (n + 1) ∷ []) word
+          ∙ ap (λ i. h.events ++ Arrive client op (slice_index tape (h.opening.shape.n + arrivals_of h)) ∷ Done i taken ∷ Issue (i + 1) first path' ∷ Acked (i + 1) ∷ []) arrived;
+      as_written = taken_written p h tape array words server sliced room taken n leaf shape d small sliced_is is;
+      bare = stamped.empty;
+    }
 
 -- the whole step, over what each call of it gives
 pub do_one_step : (p : Shape) (h h1 h' : History) (tape : List ℕ) (array array' : List (List ℕ)) (words words' : List ℕ) (server sliced room taken path' stored server' : List Bucket)

@@ -1,5 +1,5 @@
 -- Whole operations: each arrival is fetched, taken in, written back and acknowledged before the next one comes.
-use Rattle.std.specs.Prelude.{◌≡◌, ℕ, ◌+◌, ◌-◌, ◌==◌, nat_lt, List, [], ◌∷◌, ◌++◌, map, take, length, reverse, Option, Some, None, if◌then◌else◌}
+use Rattle.std.specs.Prelude.{◌≡◌, ℕ, ◌+◌, ◌-◌, ◌==◌, nat_lt, List, [], ◌∷◌, ◌++◌, map, take, length, reverse, Option, Some, None, if◌then◌else◌, All}
 use Rattle.std.specs.List.{range_with_len}
 use Rattle.tao_base.specs.declared.calls.Op.{Op}
 use Rattle.tao_base.specs.declared.calls.Op.TheVariants.{Read, Write, Pad}
@@ -10,7 +10,7 @@ use Rattle.tao_base.specs.Session.{History}
 use Rattle.tao_base.specs.Tree.{node_count}
 use Rattle.tao_model.specs.Events.{arrived}
 use Rattle.tao_model.specs.Lawful.{FollowsLawfully, OwesNone}
-use Rattle.tao_model.specs.Residence.{Unaltered, HasEntriesOf}
+use Rattle.tao_model.specs.Residence.{newest_write, Unaltered, HasEntriesOf}
 use Rattle.tao_desk.specs.declared.faults.ArriveFault.{ArriveFault}
 use Rattle.tao_desk.specs.declared.faults.ArriveFault.TheVariants.{SessionFull, NoBlock, BlockLength}
 
@@ -48,7 +48,8 @@ pub record IsSound (h : History) : Type 0 where
   pub owes : OwesNone h.opening (reverse h.events)
   pub unaltered : Unaltered HasEntriesOf h.opening (reverse h.events)
 
--- one more whole operation: four events, of the next arrival, its Done, the write-back that this fills and its acknowledgement
+-- One more whole operation: four events, of the next arrival, its Done, the write-back that this fills and its acknowledgement.
+-- Each bucket that is taken in is the newest write of its node, whole; those that are written back have no entries.
 pub record PlaysOne (old new : History) (client : ℕ) (op : Op) (word : ℕ) : Type 0 where
   pub taken : List Bucket
   pub nonce : ℕ
@@ -56,6 +57,8 @@ pub record PlaysOne (old new : History) (client : ℕ) (op : Op) (word : ℕ) : 
   pub opening : new.opening ≡ old.opening
   pub events : new.events ≡ old.events ++ Arrive client op word ∷ Done (arrivals_of old) taken
       ∷ Issue (arrivals_of old + 1) nonce buckets ∷ Acked (arrivals_of old + 1) ∷ []
+  pub as_written : All (λ bucket. newest_write old.opening (reverse old.events) bucket.node ≡ Some bucket) taken
+  pub bare : All (λ bucket. bucket.entries ≡ []) buckets
 
 -- what is wrong with an operation itself, if anything: there is no such block, or the value has another length
 abbrev pub op_refusal : Shape → Op → Option ArriveFault

@@ -1,8 +1,8 @@
-use Rattle.std.proofs.Common.{◌∙◌, ◌+◌, ◌<◌, sym, ap, subst}
+use Rattle.std.proofs.Common.{◌∙◌, ◌+◌, ◌<◌, sym, ap, subst, slice_index}
 use Rattle.tao_base.specs.Limits.{session_limit}
 use Rattle.tao_model.specs.Lawful.{IsInRange}
-use Rattle.tao_desk.specs.Whole.{DeskState, arrivals_of}
-use Rattle.tao_desk.proofs.DeskStep.{server_empty, gathered_ready, stored_nodes, do_one_step, desk_sound, word_there, word_taken}
+use Rattle.tao_desk.specs.Whole.{DeskState, PlaysOne, arrivals_of}
+use Rattle.tao_desk.proofs.DeskStep.{server_empty, gathered_ready, stored_nodes, do_one_step, plays_one, desk_sound, word_there, word_taken}
 use Rattle.tao_desk.proofs.desk.Desk.do_one.Goals as goal
 
 pub gather_to-requires-clause-server_empty : goal.gather_to-requires-clause-server_empty
@@ -45,6 +45,13 @@ invariant_of-self-2 c =
           c.add_four.ensures.events c.add_four.ensures.stamped c.add_four.ensures.len c.as_slice-4.ensures c.store_to.ensures.stores c.store_to.ensures.len
           c.exchange-value.ensures.step c.take_place.ensures.places,
     )
+
+pub returns-clause-events : goal.returns-clause-events
+returns-clause-events c =
+    subst (λ (d : DeskState). PlaysOne d.history c.add_four.new.session.history c.args.client c.args.op (slice_index d.tape (d.history.opening.shape.n + arrivals_of d.history)))
+    c.self.view_is
+    (plays_one _ _ _ _ _ _ _ _ _ _ _ _ _ _ _ _ _ _ _ c.self.invariant.0 c.make_room.ensures.history c.self.invariant.1 c.leaf_of-leaf.ensures.small
+    c.as_slice-3.ensures c.gather_to.ensures c.n.ensures.value c.as_slice-2.ensures c.add_four.ensures.opening c.add_four.ensures.events c.add_four.ensures.stamped)
 
 pub returns-clause-sound : goal.returns-clause-sound
 returns-clause-sound c = desk_sound _ _ _ _ _ _ _ (invariant_of-self-2 c).1
