@@ -26,6 +26,7 @@ bucket_of nodes w = slice_index_or nodes (w - 1) (first_bucket (λ v. []) w)
 abbrev pub has_room : Shape → ℕ → List Bucket → ℕ → Bool
 has_room s leaf nodes depth = nat_lt (length (bucket_of nodes (node_at s.l leaf depth)).entries) s.z
 
+-- what the nodes and the stash have once one more block has gone to its spot
 abbrev pub next_loaded : Shape → (ℕ → ℕ) → (ℕ → List Entry) → Entry → ℕ → List Entry
 next_loaded s leaf contents entry = put_next (may_load s leaf) (node_count s.l) s.z contents entry
 

@@ -23,9 +23,11 @@ AreShared l at leaf depth = (d : ℕ) → d ≤ l → (node_at l leaf d == node_
 abbrev pub fits : Shape → ℕ → ℕ → List (List Entry) → ℕ → Bool
 fits s at leaf lists depth = (node_at s.l leaf depth == node_at s.l at depth) && nat_lt (length (slice_index_or lists depth [])) s.z
 
+-- what the nodes of the path and the stash have once one more entry has gone to its spot
 abbrev pub next_placed : Shape → ℕ → (ℕ → ℕ) → (ℕ → List Entry) → Entry → ℕ → List Entry
 next_placed s at leaf contents entry = put_next (may_place s.l at leaf) (node_count s.l) s.z contents entry
 
+-- what they have once all entries of a list have gone to their spots, one after another
 abbrev pub all_placed : Shape → ℕ → (ℕ → ℕ) → List Entry → ℕ → List Entry
 all_placed s at leaf entries = one_pass (may_place s.l at leaf) (node_count s.l) s.z entries
 
