@@ -1,6 +1,6 @@
 -- The front of a list that was written.
 use Rattle.std.proofs.Common.{◌<◌, ◌-◌, min, ◌≡◌, ℕ, ◌≤◌, ◌+◌, List, [], ◌++◌, length, take, drop, append-nil, sym, ap, ◌∙◌, arith}
-use Rattle.std.proofs.lemmas.List.{length-take-le, length-drop, take-append-le, take-take, take-append-drop, drop-drop, drop_all, take_all}
+use Rattle.std.proofs.lemmas.List.{length-take-le, length-drop, take-append-le, drop-append-le, take-take, take-append-drop, drop-drop, drop_all, take_all}
 use Rattle.tao_base.specs.Items.{with_front}
 
 -- what was copied to the front is at the front
@@ -9,6 +9,12 @@ take_copied n xs room h =
     let e : length (take n xs) ≡ n = length-take-le n xs h in
     let k : n ≤ length (take n xs) = omega arith in
     take-append-le n (take n xs) (drop n room) k ∙ take-take n n xs (omega arith)
+
+-- behind what was copied to the front all is as before
+pub rest_copied : {X : Type 0} (n : ℕ) (xs room : List X) → n ≤ length xs → drop n (take n xs ++ drop n room) ≡ drop n room
+rest_copied n xs room h =
+    let e : length (take n xs) ≡ n = length-take-le n xs h in
+    drop-append-le n (take n xs) (drop n room) (omega arith) ∙ ap (λ front. front ++ drop n room) (drop_all n (take n xs) (omega arith))
 
 -- what is left is what was copied and what is left then
 pub left_after : {X : Type 0} (at n : ℕ) (xs : List X) → drop at xs ≡ take n (drop at xs) ++ drop (at + n) xs

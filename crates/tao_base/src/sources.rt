@@ -86,6 +86,8 @@ impl Source for ByteSource {
         ensures calls { self.new.calls ≡ one_more self.old.calls }
         ensures faults { OnErr result (self.new.faults ≡ one_more self.old.faults) }
         ensures table { self.new.fails ≡ self.old.fails }
+        ensures rest { IfOk result (λ n. drop n room.new ≡ drop n room.old) }
+        ensures err { OnErr result (room.new ≡ room.old) }
     {
         let call = self.calls;
         self.calls = call.saturating_add(1);
@@ -99,12 +101,13 @@ impl Source for ByteSource {
     }
 }
 
-#[tactic(auto, using(crate::proofs::Fronts::take_copied, std::proofs::lemmas::List::take_rest))]
+#[tactic(auto, using(crate::proofs::Fronts::take_copied, crate::proofs::Fronts::rest_copied, std::proofs::lemmas::List::take_rest))]
 // Copies to the front of the room as many of the bytes from `at` on as fit, and says how many.
 fn copy_from(bytes: &[u8], at: usize, room: &mut [u8]) -> usize
     requires { at ≤ length bytes.now }
     ensures count { result ≡ min (length (drop at bytes.now)) (length room.old) }
     ensures copied { take result room.new ≡ take result (drop at bytes.now) }
+    ensures rest { drop result room.new ≡ drop result room.old }
 {
     let left = &bytes[at..];
     let n = left.len().min(room.len());

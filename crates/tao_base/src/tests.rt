@@ -112,7 +112,31 @@ fn lists(rt: HostRuntime) -> Result<(), Fail> {
     );
     let numbers = Numbers::from_vec(vec![in alloc; 1, 2]?);
     assert_eq!(rt; numbers.as_slice(), [1, 2].as_slice());
-    assert_eq!(rt; BucketFault::Tag as u8, 8);
+    Ok(())
+}
+
+#[test]
+fn numbers_of_faults(rt: HostRuntime) -> Result<(), Fail> {
+    let limits = [
+        ParamFault::Height as u8,
+        ParamFault::BucketSize as u8,
+        ParamFault::BlockSize as u8,
+        ParamFault::Count as u8,
+        ParamFault::Period as u8,
+        ParamFault::TreeTooLarge as u8,
+    ];
+    assert_eq!(rt; limits.as_slice(), [1, 2, 3, 4, 5, 6].as_slice());
+    let buckets = [
+        BucketFault::Length as u8,
+        BucketFault::Format as u8,
+        BucketFault::Padding as u8,
+        BucketFault::Node as u8,
+        BucketFault::Id as u8,
+        BucketFault::Order as u8,
+        BucketFault::Dummy as u8,
+        BucketFault::Tag as u8,
+    ];
+    assert_eq!(rt; buckets.as_slice(), [1, 2, 3, 4, 5, 6, 7, 8].as_slice());
     Ok(())
 }
 

@@ -225,7 +225,7 @@ fn printed_lines(rt: HostRuntime) -> Result<(), Fail> {
 }
 
 #[test]
-fn names_of_faults(rt: HostRuntime) -> Result<(), Fail> {
+fn names_and_numbers_of_faults(rt: HostRuntime) -> Result<(), Fail> {
     let fault = TextFault {
         line: 3,
         kind: TextKind::TapeShort,
@@ -234,6 +234,21 @@ fn names_of_faults(rt: HostRuntime) -> Result<(), Fail> {
         format!(in rt.alloc(); "{fault}")?.as_str(),
         "line 3: TapeShort"
     );
-    assert_eq!(rt; TextKind::Memory as u8, 10);
+    let kinds = [
+        TextKind::NotText as u8,
+        TextKind::Word as u8,
+        TextKind::Number as u8,
+        TextKind::Hex as u8,
+        TextKind::Length as u8,
+        TextKind::Range as u8,
+        TextKind::Order as u8,
+        TextKind::TapeShort as u8,
+        TextKind::TooLong as u8,
+        TextKind::Memory as u8,
+    ];
+    assert_eq!(rt;
+        kinds.as_slice(),
+        [1, 2, 3, 4, 5, 6, 7, 8, 9, 10].as_slice()
+    );
     Ok(())
 }

@@ -103,6 +103,7 @@ impl<'t> Link for MemLink<'t> {
         ensures fails { IsErr result ↔ (Contains self.old.fails self.old.calls ⊎ (has_room self.old 0 ≡ false)) }
         ensures ok { OnOk result (self.new ≡ with_answer (telling self.old (Fetch id leaf) 0) path.new) }
         ensures err { OnErr result (self.new ≡ failed self.old (Fetch id leaf) 0) }
+        ensures path_kept { OnErr result (path.new ≡ path.old) }
         ensures answer { OnOk result (IsForgedPath self.old.shape leaf self.old.forgeries self.old.calls path.new) }
     {
         let call = self.calls;

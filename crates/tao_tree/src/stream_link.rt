@@ -93,6 +93,7 @@ impl<S: Source, K: Sink> Link for StreamLink<S, K> {
             ⊎ (Appends (K.put self.old.sink) (K.put self.new.sink) (frame (Fetch id leaf))
             × (FailsToReceive self.old self.new (S.faults self.old.source) (S.faults self.new.source)
             ⊎ IsAnsweredWrong self.old self.new (S.faults self.old.source) (S.faults self.new.source) (K.faults self.old.sink) (K.faults self.new.sink) (S.left self.old.source) (S.left self.new.source) (AnswersFetch id (length path.old)) (9 + length path.old)))) }
+        ensures path_kept { OnErr result (path.new ≡ path.old) }
     {
         put_fetch(&mut self.sink, id, leaf)?;
         if !receive_path(&mut self.source, &mut self.room, id)? {
