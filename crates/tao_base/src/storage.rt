@@ -55,6 +55,15 @@ impl Entries {
         }
     }
 
+    /// Takes the last entry out.
+    pub fn take_last(&mut self) -> Entry
+        requires { 0 < length self.old }
+        ensures { self.old ≡ self.new ++ result ∷ [] }
+    {
+        let last = self.items.len() - 1;
+        self.items.swap_remove(last)
+    }
+
     pub fn as_slice(&self) -> &[Entry]
         ensures { result.now ≡ self.now }
     {
