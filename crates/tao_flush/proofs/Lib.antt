@@ -1,8 +1,10 @@
 mod Evicted
+mod GatheredCopies
 mod Loaded
 mod LoopLists
 mod PathNodes
 mod PlacedLists
+mod RankedCopies
 mod RisingLists
 mod SharedPaths
 mod WholePasses

@@ -1,6 +1,5 @@
 -- One more entry of the pass, as the lists of a path see it.
 use Rattle.std.proofs.Common.{◌≡◌, ℕ, ◌+◌, ◌^◌, ◌<◌, ◌≤◌, Bool, ◌&&◌, List, [], ◌∷◌, ◌++◌, length, set, get_or, Option, Some, None, nat_lt, refl, sym, ap, ◌∙◌, subst, arith, inl, inr, ◌⊎◌}
-use Rattle.std.proofs.Common.{append-nil}
 use Rattle.std.proofs.lemmas.Bool.{ne_eqb, eq-eqb, cases_order, and_parts}
 use Rattle.std.proofs.lemmas.List.{same_lists, get_or-set_same, get_or-set_other, length-set}
 use Rattle.std.proofs.lemmas.List.FromFn.{get_or-map-range_with_len, length-map-range_with_len}
@@ -12,8 +11,7 @@ use Rattle.tao_model.specs.Passes.{spot, put_at}
 use Rattle.tao_model.specs.Greatest.{IsLast}
 use Rattle.tao_model.proofs.FallingPaths.{has}
 use Rattle.tao_flush.specs.Placing.{lists_on, may_place, fits, next_placed, all_placed, PlacesNext}
-use Rattle.tao_flush.proofs.LoopLists.{fold_done}
-use Rattle.std.proofs.Common.{All, take, drop}
+use Rattle.std.proofs.Common.{All, fold}
 use Rattle.tao_model.specs.Passes.{put_next}
 use Rattle.tao_flush.proofs.PathNodes.{node_or_stash, node_rises, on_own_path, on_other_path, deepest_on_path, last_alike}
 
@@ -78,9 +76,9 @@ put_off_path l at contents e =
     list_at l at k contents x le ∙ sym (list_at l at k (put_at contents 0 e) x le ∙ rw (ne_eqb 0 (node_at l at k) (λ same. omega arith)) refl))
 
 -- the entry at the depth that was found
-pub places_there : (s : Shape) (at : ℕ) (leaf : ℕ → ℕ) (old : List (List Entry)) (e : Entry) (d : ℕ) (x : List Entry) → at < 2 ^ s.l → leaf e.id < 2 ^ s.l
-    → IsLast (fits s at (leaf e.id) old) (s.l + 1) (Some d) → PlacesNext s at leaf old e (set old d (get_or old d x ++ e ∷ [])) None
-places_there s at leaf old e d x small other is contents lists =
+pub places_there : (s : Shape) (at : ℕ) (leaf : ℕ → ℕ) (old : List (List Entry)) (rest : List Entry) (e : Entry) (d : ℕ) (x : List Entry) → at < 2 ^ s.l → leaf e.id < 2 ^ s.l
+    → IsLast (fits s at (leaf e.id) old) (s.l + 1) (Some d) → PlacesNext s at leaf old rest e (set old d (get_or old d x ++ e ∷ [])) rest
+places_there s at leaf old rest e d x small other is contents lists others =
     let is_here : IsLast (fits s at (leaf e.id) (lists_on s.l at contents)) (s.l + 1) (Some d) = subst (λ l. IsLast (fits s at (leaf e.id) l) (s.l + 1) (Some d)) lists is in
     let spot_is : spot (may_place s.l at leaf) (node_count s.l) s.z contents e.id ≡ node_at s.l at d = spot_found s at leaf contents e.id (Some d) small other is_here in
     let below = is.0 in
@@ -88,16 +86,16 @@ places_there s at leaf old e d x small other is contents lists =
     let low = one_le_node s.l at d in (
       ap (λ l. set l d (get_or l d x ++ e ∷ [])) lists ∙ ap (λ c. set (lists_on s.l at contents) d (c ++ e ∷ [])) (list_at s.l at d contents x within)
           ∙ put_on_path s.l at d contents e small within ∙ ap (λ v. lists_on s.l at (put_at contents v e)) (sym spot_is),
-      ap (λ v. put_at contents v e 0) spot_is ∙ rw (ne_eqb (node_at s.l at d) 0 (λ same. omega arith)) (sym (append-nil (contents 0))),
+      others ∙ sym (ap (λ v. put_at contents v e 0) spot_is ∙ rw (ne_eqb (node_at s.l at d) 0 (λ same. omega arith)) refl),
     )
 
-pub places_none : (s : Shape) (at : ℕ) (leaf : ℕ → ℕ) (old : List (List Entry)) (e : Entry) → at < 2 ^ s.l → leaf e.id < 2 ^ s.l
-    → IsLast (fits s at (leaf e.id) old) (s.l + 1) None → PlacesNext s at leaf old e old (Some e)
-places_none s at leaf old e small other is contents lists =
+pub places_none : (s : Shape) (at : ℕ) (leaf : ℕ → ℕ) (old : List (List Entry)) (rest : List Entry) (e : Entry) → at < 2 ^ s.l → leaf e.id < 2 ^ s.l
+    → IsLast (fits s at (leaf e.id) old) (s.l + 1) None → PlacesNext s at leaf old rest e old (rest ++ e ∷ [])
+places_none s at leaf old rest e small other is contents lists others =
     let is_here : IsLast (fits s at (leaf e.id) (lists_on s.l at contents)) (s.l + 1) None = subst (λ l. IsLast (fits s at (leaf e.id) l) (s.l + 1) None) lists is in
     let spot_is : spot (may_place s.l at leaf) (node_count s.l) s.z contents e.id ≡ 0 = spot_found s at leaf contents e.id None small other is_here in (
       lists ∙ put_off_path s.l at contents e ∙ ap (λ v. lists_on s.l at (put_at contents v e)) (sym spot_is),
-      ap (λ v. put_at contents v e 0) spot_is,
+      ap (λ es. es ++ e ∷ []) others ∙ sym (ap (λ v. put_at contents v e 0) spot_is),
     )
 
 -- ---- the pass over the list
@@ -107,8 +105,12 @@ none_placed l at lists len empty =
     same_lists lists (lists_on l at (λ w. [])) (len ∙ sym (lists_len l at (λ w. [])))
     (λ k x below. empty k x below ∙ sym (list_at l at k (λ w. []) x (omega arith)))
 
--- the next entry of the list
-pub next_of_all : (s : Shape) (at : ℕ) (leaf : ℕ → ℕ) (es now : List Entry) (i : ℕ) (e d : Entry) → drop i now ≡ drop i es → i < length es → e ≡ get_or now i d
-    → next_placed s at leaf (all_placed s at leaf (take i es)) e ≡ all_placed s at leaf (take (i + 1) es)
-next_of_all s at leaf es now i e d left within is =
-    fold_done (put_next (may_place s.l at leaf) (node_count s.l) s.z) (λ w. []) (all_placed s at leaf (take i es)) now es i e d left within is refl
+-- one entry more
+pub next_of_all : (s : Shape) (at : ℕ) (leaf : ℕ → ℕ) (es : List Entry) (e : Entry) → next_placed s at leaf (all_placed s at leaf es) e ≡ all_placed s at leaf (es ++ e ∷ [])
+next_of_all s at leaf es e = from (λ w. []) es
+  where
+    from : (contents : ℕ → List Entry) (all : List Entry)
+        → put_next (may_place s.l at leaf) (node_count s.l) s.z (fold (put_next (may_place s.l at leaf) (node_count s.l) s.z) contents all) e
+        ≡ fold (put_next (may_place s.l at leaf) (node_count s.l) s.z) contents (all ++ e ∷ [])
+    from contents [] = refl
+    from contents (f ∷ all) = from (put_next (may_place s.l at leaf) (node_count s.l) s.z contents f) all

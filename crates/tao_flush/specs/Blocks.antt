@@ -1,5 +1,5 @@
 -- What the stash and the nodes may hold.
-use Rattle.std.specs.Prelude.{◌≡◌, ℕ, ◌<◌, ◌≤◌, List, length, Some, Result, Ok, Err, All}
+use Rattle.std.specs.Prelude.{◌≡◌, ℕ, ◌+◌, ◌*◌, ◌<◌, ◌≤◌, List, length, Some, Result, Ok, Err, All}
 use Rattle.std.specs.List.{AllWithin, HoldsAt}
 use Rattle.tao_base.specs.declared.storage.Entry.{Entry}
 use Rattle.tao_base.specs.Limits.{Shape}
@@ -18,6 +18,10 @@ pub record IsStash (s : Shape) (entries : List Entry) : Type 0 where
 pub record AreNodeEntries (s : Shape) (entries : List Entry) : Type 0 where
   pub few : length entries ≤ s.z
   pub each : All (IsEntry s) entries
+
+-- room for the copies of all blocks, and for eight at each node of a path
+abbrev pub HasRoom : Shape → ℕ → Type 0
+HasRoom s room = s.n + (s.l + 1) * 8 ≤ room
 
 -- a block has this value, and every other block has what it had
 pub record PutsValue (old new : List Entry) (block : ℕ) (value : List ℕ) : Type 0 where

@@ -1,5 +1,7 @@
 pub mod Blocks
+pub mod Gathering
 pub mod Loads
 pub mod Paths
 pub mod Placing
+pub mod Ranking
 pub mod State

@@ -1,7 +1,6 @@
 -- The pass in rising id, as the lists of a path's nodes see it.
-use Rattle.std.specs.Prelude.{◌≡◌, ℕ, ◌+◌, ◌≤◌, ◌==◌, nat_lt, Bool, ◌&&◌, List, [], ◌++◌, map, length, Option}
+use Rattle.std.specs.Prelude.{◌≡◌, ℕ, ◌+◌, ◌≤◌, ◌==◌, nat_lt, Bool, ◌&&◌, List, [], map, length}
 use Rattle.std.specs.List.{list_any, range_with_len, slice_index_or}
-use Rattle.std.specs.Option.{option_to_list}
 use Rattle.tao_base.specs.declared.storage.Entry.{Entry}
 use Rattle.tao_base.specs.Limits.{Shape}
 use Rattle.tao_base.specs.Tree.{node_at, node_count, path, is_on_path}
@@ -31,7 +30,7 @@ next_placed s at leaf contents entry = put_next (may_place s.l at leaf) (node_co
 abbrev pub all_placed : Shape → ℕ → (ℕ → ℕ) → List Entry → ℕ → List Entry
 all_placed s at leaf entries = one_pass (may_place s.l at leaf) (node_count s.l) s.z entries
 
--- one entry goes where it is to go: to a node of the path, or back to the caller
-abbrev pub PlacesNext : Shape → ℕ → (ℕ → ℕ) → List (List Entry) → Entry → List (List Entry) → Option Entry → Type 0
-PlacesNext s at leaf old entry new back = (contents : ℕ → List Entry) → old ≡ lists_on s.l at contents
-    → (new ≡ lists_on s.l at (next_placed s at leaf contents entry)) × (next_placed s at leaf contents entry 0 ≡ contents 0 ++ option_to_list back)
+-- one entry goes where it is to go: to a node of the path, or behind the rest, which is the stash's
+abbrev pub PlacesNext : Shape → ℕ → (ℕ → ℕ) → List (List Entry) → List Entry → Entry → List (List Entry) → List Entry → Type 0
+PlacesNext s at leaf old rest entry new rest' = (contents : ℕ → List Entry) → old ≡ lists_on s.l at contents → rest ≡ contents 0
+    → (new ≡ lists_on s.l at (next_placed s at leaf contents entry)) × (rest' ≡ next_placed s at leaf contents entry 0)

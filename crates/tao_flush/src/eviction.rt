@@ -5,8 +5,9 @@ ghost use Rattle.tao_flush.specs.Paths.{Evicts};
 ghost use Rattle.tao_flush.specs.State.{leaf_in};
 
 use crate::gathering::gather_path;
-use crate::placing::place_entries;
+use crate::placing::place_copies;
 use crate::positions::Positions;
+use crate::ranking::rank_copies;
 use crate::stash::Stash;
 use tao_base::{Entries, Params};
 
@@ -24,6 +25,21 @@ pub fn flush(p: &Params, leaf: u32, path: &mut [Entries], stash: &mut Stash, pos
     ensures stash { IsStash p.now stash.new.entries }
     ensures entries { All (AreNodeEntries p.now) path.new }
 {
-    gather_path(stash.alloc, p, &mut stash.entries, path);
-    place_entries(stash.alloc, p, leaf, path, &mut stash.entries, positions);
+    // a reader tells that the parameters are within their limits
+    let _within = p.l();
+    let own = stash.entries.len();
+    let count = gather_path(stash.alloc, &mut stash.entries, path, &mut stash.copies);
+    rank_copies(own, count, &stash.copies, &mut stash.keys);
+    place_copies(
+        stash.alloc,
+        p,
+        leaf,
+        path,
+        count,
+        &mut stash.copies,
+        &stash.keys,
+        &mut stash.entries,
+        positions,
+    );
+    stash.keys.truncate(0);
 }

@@ -6,6 +6,7 @@ mod gathering;
 mod loading;
 mod placing;
 mod positions;
+mod ranking;
 mod rising;
 mod stash;
 #[cfg(test)]

@@ -11,7 +11,7 @@ ghost use Rattle.tao_flush.specs.Loads.{IsLoaded, LoadsNext, bucket_of, has_room
 use crate::placing::push_within;
 use crate::positions::Positions;
 use crate::rising::insert_within;
-use crate::stash::Stash;
+use crate::stash::{Stash, most_copies, no_copies};
 use std::alloc::Global;
 use tao_base::{Block, Bucket, Buckets, Entries, Entry, NoMemory, Params, path_node};
 
@@ -32,12 +32,15 @@ pub fn load(
     ensures shape { IfOk result (λ r. r.1.shape ≡ p.now) }
 {
     let mut nodes = empty_nodes(alloc, p)?;
-    let mut rest = Vec::with_capacity(alloc, p.n() as usize)?;
+    let room = most_copies(p);
+    let mut rest = Vec::with_capacity(alloc, room)?;
     place_blocks(alloc, p, positions, blocks, &mut nodes, &mut rest)?;
     let stash = Stash {
         alloc,
         p: *p,
         entries: rest,
+        copies: no_copies(alloc, room)?,
+        keys: Vec::with_capacity(alloc, room)?,
     };
     Ok((Buckets::from_vec(nodes), stash))
 }
@@ -73,7 +76,7 @@ fn place_blocks(
     requires room { p.now.n ≤ vec_capacity rest.old }
     ensures nodes { IfOk result (λ _. nodes.new.items ≡ load_buckets p.now (load_contents p.now (leaf_in positions.now) blocks.now)) }
     ensures rest { IfOk result (λ _. rest.new.items ≡ load_contents p.now (leaf_in positions.now) blocks.now 0) }
-    ensures room { p.now.n ≤ vec_capacity rest.new }
+    ensures capacity { vec_capacity rest.old ≤ vec_capacity rest.new }
 {
     for id in 0..p.n() {
         let value = Block::from_slice(alloc, blocks[id as usize].as_slice())?;

@@ -1,101 +1,93 @@
-//! One pass in rising id: each entry goes to the deepest node of the path that it may lie in and that has room, or stays.
-ghost use Rattle.std.specs.Prelude.{◌≡◌, ◌+◌, ◌^◌, ◌<◌, ◌≤◌, [], ◌∷◌, ◌++◌, length, take, drop, vec_capacity, IfSome, All};
+//! One pass in rising id: each block goes to the deepest node of the path that it may lie in and that has room, or stays.
+ghost use Rattle.std.specs.Prelude.{◌≡◌, ◌+◌, ◌^◌, ◌<◌, ◌≤◌, [], ◌∷◌, ◌++◌, length, take, vec_len, vec_capacity, IfSome, All};
 ghost use Rattle.std.specs.List.{slice_index_or};
-ghost use Rattle.std.specs.Option.{option_to_list};
 ghost use Rattle.tao_model.specs.Greatest.{IsLast};
 ghost use Rattle.tao_flush.specs.State.{leaf_in};
 ghost use Rattle.tao_flush.specs.Placing.{fits, lists_on, all_placed, PlacesNext, AreShared};
+ghost use Rattle.tao_flush.specs.Ranking.{chosen, IsRanked};
 
 use crate::gathering::take;
 use crate::positions::Positions;
+use crate::ranking::place_of_key;
 use std::alloc::Global;
 use tao_base::{Entries, Entry, Params};
 
-/// Puts the entries of a rising list into the empty nodes of the path to a leaf. What finds no room stays in the list.
-pub(crate) fn place_entries(
+/// Puts the first copy of each block into the empty nodes of the path to a leaf, in the order of the keys, which are those of the first
+/// copies, as many as `count`. What finds no room goes to the list of the rest.
+pub(crate) fn place_copies(
     alloc: Global,
     p: &Params,
     leaf: u32,
     path: &mut [Entries],
-    entries: &mut Vec<Entry>,
+    count: usize,
+    copies: &mut [Entry],
+    keys: &[u64],
+    rest: &mut Vec<Entry>,
     positions: &Positions,
 )
     requires leaf { leaf < 2 ^ p.now.l }
     requires positions { positions.now.shape ≡ p.now }
-    requires ids { All (λ entry. entry.id < p.now.n) entries.old.items }
+    requires count { count ≤ length copies.old }
+    requires ids { All (λ entry. entry.id < p.now.n) (take count copies.old) }
     requires path { length path.old ≡ p.now.l + 1 }
     requires emptied { All (λ list. list ≡ []) path.old }
-    ensures path { path.new ≡ lists_on p.now.l leaf (all_placed p.now leaf (leaf_in positions.now) entries.old.items) }
-    ensures rest { entries.new.items ≡ all_placed p.now leaf (leaf_in positions.now) entries.old.items 0 }
-    ensures capacity { vec_capacity entries.new ≡ vec_capacity entries.old }
+    requires ranked { IsRanked copies.old count keys.now }
+    requires none { rest.old.items ≡ [] }
+    requires room { length keys.now ≤ vec_capacity rest.old }
+    ensures path { path.new ≡ lists_on p.now.l leaf (all_placed p.now leaf (leaf_in positions.now) (chosen copies.old 0 keys.now)) }
+    ensures rest { rest.new.items ≡ all_placed p.now leaf (leaf_in positions.now) (chosen copies.old 0 keys.now) 0 }
+    ensures capacity { vec_capacity rest.old ≤ vec_capacity rest.new }
 {
-    let kept = place_all(alloc, p, leaf, path, entries, positions);
-    entries.truncate(kept);
+    // a reader tells that the blocks can be counted
+    let _count = p.n();
+    let mut low = 0;
+    for i in 0..keys.len() {
+        let place = place_of_key(keys[i]);
+        let id = copies[place].id;
+        if low <= id {
+            low = id + 1;
+            place_entry(alloc, p, leaf, path, rest, &mut copies[place], positions);
+        } else {
+            // a later copy
+            take(alloc, &mut copies[place]);
+        }
+    }
 }
 
-// Puts the entries into the nodes, and answers how many stay: the first ones of the list.
-fn place_all(
+// Takes the entry to where it is to go: into a node, or behind the rest.
+fn place_entry(
     alloc: Global,
     p: &Params,
     leaf: u32,
     path: &mut [Entries],
-    entries: &mut [Entry],
+    rest: &mut Vec<Entry>,
+    entry: &mut Entry,
     positions: &Positions,
-) -> usize
+)
     requires leaf { leaf < 2 ^ p.now.l }
     requires positions { positions.now.shape ≡ p.now }
-    requires ids { All (λ entry. entry.id < p.now.n) entries.old }
+    requires id { entry.old.id < p.now.n }
     requires path { length path.old ≡ p.now.l + 1 }
-    requires emptied { All (λ list. list ≡ []) path.old }
-    ensures path { path.new ≡ lists_on p.now.l leaf (all_placed p.now leaf (leaf_in positions.now) entries.old) }
-    ensures kept { result ≤ length entries.new }
-    ensures rest { take result entries.new ≡ all_placed p.now leaf (leaf_in positions.now) entries.old 0 }
-{
-    let mut kept = 0;
-    for i in 0..entries.len() {
-        let entry = take(alloc, &mut entries[i]);
-        let back = place_entry(p, leaf, path, entry, positions);
-        kept = keep(entries, kept, back);
-    }
-    kept
-}
-
-// Puts an entry that came back behind those that were kept, and answers how many are kept now.
-fn keep(entries: &mut [Entry], kept: usize, back: Option<Entry>) -> usize
-    requires { kept < length entries.old }
-    ensures items { take result entries.new ≡ take kept entries.old ++ option_to_list back }
-    ensures most { result ≤ kept + 1 }
-    ensures left { drop (kept + 1) entries.new ≡ drop (kept + 1) entries.old }
-{
-    match back {
-        Some(entry) => {
-            entries[kept] = entry;
-            kept + 1
-        }
-        None => kept,
-    }
-}
-
-// Puts the entry where it is to go, or gives it back.
-fn place_entry(
-    p: &Params,
-    leaf: u32,
-    path: &mut [Entries],
-    entry: Entry,
-    positions: &Positions,
-) -> Option<Entry>
-    requires leaf { leaf < 2 ^ p.now.l }
-    requires positions { positions.now.shape ≡ p.now }
-    requires id { entry.id < p.now.n }
-    requires path { length path.old ≡ p.now.l + 1 }
-    ensures { PlacesNext p.now leaf (leaf_in positions.now) path.old entry path.new result }
+    requires room { vec_len rest.old < vec_capacity rest.old }
+    ensures placed { PlacesNext p.now leaf (leaf_in positions.now) path.old rest.old.items entry.old path.new rest.new.items }
+    ensures most { vec_len rest.new ≤ vec_len rest.old + 1 }
+    ensures capacity { vec_capacity rest.old ≤ vec_capacity rest.new }
 {
     match deepest_with_room(p, leaf, positions.leaf(entry.id), path) {
-        Some(depth) => {
-            push_within(&mut path[depth as usize], entry);
-            None
-        }
-        None => Some(entry),
+        Some(depth) => push_within(&mut path[depth as usize], take(alloc, entry)),
+        None => push_rest(rest, take(alloc, entry)),
+    }
+}
+
+fn push_rest(rest: &mut Vec<Entry>, entry: Entry)
+    requires { vec_len rest.old < vec_capacity rest.old }
+    ensures items { rest.new.items ≡ rest.old.items ++ entry ∷ [] }
+    ensures len { vec_len rest.new ≡ vec_len rest.old + 1 }
+    ensures capacity { vec_capacity rest.old ≤ vec_capacity rest.new }
+{
+    match rest.push(entry) {
+        Ok(()) => {}
+        Err(_) => unreachable!(),
     }
 }
 

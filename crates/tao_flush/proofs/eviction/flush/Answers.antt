@@ -1,42 +1,201 @@
-use Rattle.std.proofs.Common.{◌≡◌, sym, ap, ◌∙◌, subst, arith}
+use Rattle.std.proofs.Common.{◌≡◌, ◌<◌, length, take, fold, All, refl, sym, ap, ◌∙◌, subst, arith}
+use Rattle.std.proofs.lemmas.List.{take-take}
+use Rattle.tao_model.specs.Placement.{Rises}
+use Rattle.tao_model.specs.Passes.{gather}
 use Rattle.tao_flush.specs.Blocks.{IsStash}
+use Rattle.tao_flush.specs.Placing.{lists_on, all_placed}
+use Rattle.tao_flush.specs.Ranking.{chosen}
 use Rattle.tao_flush.specs.State.{leaf_in}
 use Rattle.tao_flush.proofs.Evicted.{evicts, stash_fits, nodes_fit}
+use Rattle.tao_flush.proofs.GatheredCopies.{joined_starts, joined_ids, chosen_gathered, gathered_keeps, written_back, blocks_few}
+use Rattle.tao_flush.proofs.RisingLists.{stash_few}
 use Rattle.tao_flush.proofs.eviction.flush.Goals as goal
+
+pub gather_path-count-requires-clause-room : goal.gather_path-count-requires-clause-room
+gather_path-count-requires-clause-room c =
+    let p_is : c.stash.inside.p ≡ c.args.p.now = ap (λ s. s.shape) c.stash.view_is ∙ c.requires.stash in
+    let is : IsStash c.args.p.now c.stash.inside.entries.items = subst (λ s. IsStash s c.stash.inside.entries.items) p_is c.stash.invariant.1 in
+    let l_is : c.stash.inside.p.l ≡ c.args.p.now.l = ap (λ s. s.l) p_is in
+    let n_is : c.stash.inside.p.n ≡ c.args.p.now.n = ap (λ s. s.n) p_is in
+    let few = stash_few c.args.p.now c.stash.inside.entries.items is in
+    let path = c.requires.path in
+    let copies_room = c.stash.invariant.3 in
+    let len = c.deref_mut.ensures.len in
+    omega (arith, l_is, n_is, few, path, copies_room, len)
+
+pub rank_copies-requires-clause-rises : goal.rank_copies-requires-clause-rises
+rank_copies-requires-clause-rises c =
+    let p_is : c.stash.inside.p ≡ c.args.p.now = ap (λ s. s.shape) c.stash.view_is ∙ c.requires.stash in
+    let is : IsStash c.args.p.now c.stash.inside.entries.items = subst (λ s. IsStash s c.stash.inside.entries.items) p_is c.stash.invariant.1 in
+    let len = c.deref_mut.ensures.len in
+    let kept = c.gather_path-count.ensures.len in
+    let back = written_back c.gather_path-count.new.copies _ c.stash.inside.copies.len (omega (arith, kept, len)) in
+    let least = c.gather_path-count.ensures.least in
+    let own : c.len-own.result ≡ length c.stash.inside.entries.items = omega arith in
+    let front = sym (take-take (length c.stash.inside.entries.items) c.gather_path-count.result c.gather_path-count.new.copies least) ∙ ap (take (length c.stash.inside.entries.items)) c.gather_path-count.ensures.copies
+    ∙ joined_starts c.stash.inside.entries.items c.args.path.now in
+    subst (Rises 0) (sym (ap (λ n. take n c.deref.result.now) own ∙ ap (take (length c.stash.inside.entries.items)) (c.deref.ensures.value ∙ back) ∙ front)) is.rises
+
+pub rank_copies-requires-clause-few : goal.rank_copies-requires-clause-few
+rank_copies-requires-clause-few c =
+    let p_is : c.stash.inside.p ≡ c.args.p.now = ap (λ s. s.shape) c.stash.view_is ∙ c.requires.stash in
+    let is : IsStash c.args.p.now c.stash.inside.entries.items = subst (λ s. IsStash s c.stash.inside.entries.items) p_is c.stash.invariant.1 in
+    let l_is : c.stash.inside.p.l ≡ c.args.p.now.l = ap (λ s. s.l) p_is in
+    let n_is : c.stash.inside.p.n ≡ c.args.p.now.n = ap (λ s. s.n) p_is in
+    let few = stash_few c.args.p.now c.stash.inside.entries.items is in
+    let path = c.requires.path in
+    let copies_room = c.stash.invariant.3 in
+    let len = c.deref_mut.ensures.len in
+    let most = c.gather_path-count.ensures.most in
+    let kept = c.gather_path-count.ensures.len in
+    let fits = c.gather_path-count.ensures.fits in
+    let blocks = blocks_few c.args.p.now c.l-within.ensures.shape in
+    let high = c.l-within.ensures.shape.height_high in
+    omega (arith, l_is, n_is, few, path, most, blocks, high)
+
+pub rank_copies-requires-clause-count : goal.rank_copies-requires-clause-count
+rank_copies-requires-clause-count c =
+    let len = c.deref_mut.ensures.len in
+    let kept = c.gather_path-count.ensures.len in
+    let back = written_back c.gather_path-count.new.copies _ c.stash.inside.copies.len (omega (arith, kept, len)) in
+    let fits = c.gather_path-count.ensures.fits in
+    let same = ap length (c.deref.ensures.value ∙ back) in
+    omega (arith, fits, same)
+
+pub rank_copies-requires-clause-room : goal.rank_copies-requires-clause-room
+rank_copies-requires-clause-room c =
+    let p_is : c.stash.inside.p ≡ c.args.p.now = ap (λ s. s.shape) c.stash.view_is ∙ c.requires.stash in
+    let is : IsStash c.args.p.now c.stash.inside.entries.items = subst (λ s. IsStash s c.stash.inside.entries.items) p_is c.stash.invariant.1 in
+    let l_is : c.stash.inside.p.l ≡ c.args.p.now.l = ap (λ s. s.l) p_is in
+    let n_is : c.stash.inside.p.n ≡ c.args.p.now.n = ap (λ s. s.n) p_is in
+    let few = stash_few c.args.p.now c.stash.inside.entries.items is in
+    let path = c.requires.path in
+    let copies_room = c.stash.invariant.3 in
+    let len = c.deref_mut.ensures.len in
+    let most = c.gather_path-count.ensures.most in
+    let kept = c.gather_path-count.ensures.len in
+    let fits = c.gather_path-count.ensures.fits in
+    let keys_room = c.stash.invariant.5 in
+    omega (arith, l_is, n_is, few, path, most, keys_room)
+
+pub place_copies-requires-clause-count : goal.place_copies-requires-clause-count
+place_copies-requires-clause-count c =
+    let len = c.deref_mut.ensures.len in
+    let kept = c.gather_path-count.ensures.len in
+    let back = written_back c.gather_path-count.new.copies _ c.stash.inside.copies.len (omega (arith, kept, len)) in
+    let fits = c.gather_path-count.ensures.fits in
+    let same = ap length (c.deref_mut-2.ensures.value ∙ back) in
+    omega (arith, fits, same)
+
+pub place_copies-requires-clause-ids : goal.place_copies-requires-clause-ids
+place_copies-requires-clause-ids c =
+    let p_is : c.stash.inside.p ≡ c.args.p.now = ap (λ s. s.shape) c.stash.view_is ∙ c.requires.stash in
+    let is : IsStash c.args.p.now c.stash.inside.entries.items = subst (λ s. IsStash s c.stash.inside.entries.items) p_is c.stash.invariant.1 in
+    let len = c.deref_mut.ensures.len in
+    let kept = c.gather_path-count.ensures.len in
+    let back = written_back c.gather_path-count.new.copies _ c.stash.inside.copies.len (omega (arith, kept, len)) in
+    subst (All (λ e. e.id < c.args.p.now.n)) (sym (ap (take c.gather_path-count.result) (c.deref_mut-2.ensures.value ∙ back) ∙ c.gather_path-count.ensures.copies))
+    (joined_ids c.args.p.now c.stash.inside.entries.items c.args.path.now is c.requires.entries)
+
+pub place_copies-requires-clause-room : goal.place_copies-requires-clause-room
+place_copies-requires-clause-room c =
+    let p_is : c.stash.inside.p ≡ c.args.p.now = ap (λ s. s.shape) c.stash.view_is ∙ c.requires.stash in
+    let is : IsStash c.args.p.now c.stash.inside.entries.items = subst (λ s. IsStash s c.stash.inside.entries.items) p_is c.stash.invariant.1 in
+    let l_is : c.stash.inside.p.l ≡ c.args.p.now.l = ap (λ s. s.l) p_is in
+    let n_is : c.stash.inside.p.n ≡ c.args.p.now.n = ap (λ s. s.n) p_is in
+    let few = stash_few c.args.p.now c.stash.inside.entries.items is in
+    let path = c.requires.path in
+    let copies_room = c.stash.invariant.3 in
+    let len = c.deref_mut.ensures.len in
+    let most = c.gather_path-count.ensures.most in
+    let kept = c.gather_path-count.ensures.len in
+    let fits = c.gather_path-count.ensures.fits in
+    let room = c.stash.invariant.2 in
+    let same = c.gather_path-count.ensures.capacity in
+    let keys = c.deref-2.ensures.len in
+    let ranked = c.rank_copies.ensures.len in
+    omega (arith, l_is, n_is, few, path, most, room, same, keys, ranked)
 
 pub returns-clause-evicted : goal.returns-clause-evicted
 returns-clause-evicted c =
     let p_is : c.stash.inside.p ≡ c.args.p.now = ap (λ s. s.shape) c.stash.view_is ∙ c.requires.stash in
     let is : IsStash c.args.p.now c.stash.inside.entries.items = subst (λ s. IsStash s c.stash.inside.entries.items) p_is c.stash.invariant.1 in
+    let len = c.deref_mut.ensures.len in
+    let kept = c.gather_path-count.ensures.len in
+    let back = written_back c.gather_path-count.new.copies _ c.stash.inside.copies.len (omega (arith, kept, len)) in
+    let copies = c.deref_mut-2.ensures.value ∙ back in
+    let chosen_is = ap (λ all. chosen all 0 c.deref-2.result.now) (copies ∙ sym (c.deref.ensures.value ∙ back)) ∙ ap (chosen c.deref.result.now 0) c.deref-2.ensures.value
+    ∙ chosen_gathered c.stash.inside.entries.items c.args.path.now c.deref.result.now c.gather_path-count.result c.rank_copies.new.keys.items is.rises
+    (ap (take c.gather_path-count.result) (c.deref.ensures.value ∙ back) ∙ c.gather_path-count.ensures.copies) c.rank_copies.ensures.ranked in
+    let rest = c.place_copies.ensures.rest ∙ ap (λ es. all_placed c.args.p.now c.args.leaf (leaf_in c.args.positions.now) es 0) chosen_is in
+    let placed = c.place_copies.ensures.path ∙ ap (λ es. lists_on c.args.p.now.l c.args.leaf (all_placed c.args.p.now c.args.leaf (leaf_in c.args.positions.now) es)) chosen_is in
+    let keeps = gathered_keeps c.args.p.now c.stash.inside.entries.items c.args.path.now is c.requires.entries in
     rw (← c.stash.view_is)
-    (evicts c.args.p.now c.args.leaf (leaf_in c.args.positions.now) c.stash.inside.entries.items c.args.path.now c.gather_path.new.entries.items
-    c.place_entries.new.entries.items c.place_entries.new.path c.requires.leaf is c.requires.path c.gather_path.ensures.items c.place_entries.ensures.rest c.place_entries.ensures.path)
+    (evicts c.args.p.now c.args.leaf (leaf_in c.args.positions.now) c.stash.inside.entries.items c.args.path.now (fold gather c.stash.inside.entries.items c.args.path.now)
+    c.place_copies.new.rest.items c.place_copies.new.path c.requires.leaf is c.requires.path refl rest placed)
 
 pub returns-clause-stash : goal.returns-clause-stash
 returns-clause-stash c =
     let p_is : c.stash.inside.p ≡ c.args.p.now = ap (λ s. s.shape) c.stash.view_is ∙ c.requires.stash in
     let is : IsStash c.args.p.now c.stash.inside.entries.items = subst (λ s. IsStash s c.stash.inside.entries.items) p_is c.stash.invariant.1 in
-    stash_fits c.args.p.now c.args.leaf (leaf_in c.args.positions.now) c.stash.inside.entries.items c.args.path.now c.gather_path.new.entries.items
-    c.requires.leaf is c.requires.path c.gather_path.ensures.items c.gather_path.ensures.stash
-    c.place_entries.new.entries.items c.place_entries.ensures.rest
+    let len = c.deref_mut.ensures.len in
+    let kept = c.gather_path-count.ensures.len in
+    let back = written_back c.gather_path-count.new.copies _ c.stash.inside.copies.len (omega (arith, kept, len)) in
+    let copies = c.deref_mut-2.ensures.value ∙ back in
+    let chosen_is = ap (λ all. chosen all 0 c.deref-2.result.now) (copies ∙ sym (c.deref.ensures.value ∙ back)) ∙ ap (chosen c.deref.result.now 0) c.deref-2.ensures.value
+    ∙ chosen_gathered c.stash.inside.entries.items c.args.path.now c.deref.result.now c.gather_path-count.result c.rank_copies.new.keys.items is.rises
+    (ap (take c.gather_path-count.result) (c.deref.ensures.value ∙ back) ∙ c.gather_path-count.ensures.copies) c.rank_copies.ensures.ranked in
+    let rest = c.place_copies.ensures.rest ∙ ap (λ es. all_placed c.args.p.now c.args.leaf (leaf_in c.args.positions.now) es 0) chosen_is in
+    let placed = c.place_copies.ensures.path ∙ ap (λ es. lists_on c.args.p.now.l c.args.leaf (all_placed c.args.p.now c.args.leaf (leaf_in c.args.positions.now) es)) chosen_is in
+    let keeps = gathered_keeps c.args.p.now c.stash.inside.entries.items c.args.path.now is c.requires.entries in
+    stash_fits c.args.p.now c.args.leaf (leaf_in c.args.positions.now) c.stash.inside.entries.items c.args.path.now (fold gather c.stash.inside.entries.items c.args.path.now)
+    c.requires.leaf is c.requires.path refl keeps c.place_copies.new.rest.items rest
 
 pub returns-clause-entries : goal.returns-clause-entries
 returns-clause-entries c =
     let p_is : c.stash.inside.p ≡ c.args.p.now = ap (λ s. s.shape) c.stash.view_is ∙ c.requires.stash in
     let is : IsStash c.args.p.now c.stash.inside.entries.items = subst (λ s. IsStash s c.stash.inside.entries.items) p_is c.stash.invariant.1 in
-    nodes_fit c.args.p.now c.args.leaf (leaf_in c.args.positions.now) c.stash.inside.entries.items c.args.path.now c.gather_path.new.entries.items
-    c.requires.leaf is c.requires.path c.gather_path.ensures.items c.gather_path.ensures.stash
-    c.place_entries.new.path c.place_entries.ensures.path
+    let len = c.deref_mut.ensures.len in
+    let kept = c.gather_path-count.ensures.len in
+    let back = written_back c.gather_path-count.new.copies _ c.stash.inside.copies.len (omega (arith, kept, len)) in
+    let copies = c.deref_mut-2.ensures.value ∙ back in
+    let chosen_is = ap (λ all. chosen all 0 c.deref-2.result.now) (copies ∙ sym (c.deref.ensures.value ∙ back)) ∙ ap (chosen c.deref.result.now 0) c.deref-2.ensures.value
+    ∙ chosen_gathered c.stash.inside.entries.items c.args.path.now c.deref.result.now c.gather_path-count.result c.rank_copies.new.keys.items is.rises
+    (ap (take c.gather_path-count.result) (c.deref.ensures.value ∙ back) ∙ c.gather_path-count.ensures.copies) c.rank_copies.ensures.ranked in
+    let rest = c.place_copies.ensures.rest ∙ ap (λ es. all_placed c.args.p.now c.args.leaf (leaf_in c.args.positions.now) es 0) chosen_is in
+    let placed = c.place_copies.ensures.path ∙ ap (λ es. lists_on c.args.p.now.l c.args.leaf (all_placed c.args.p.now c.args.leaf (leaf_in c.args.positions.now) es)) chosen_is in
+    let keeps = gathered_keeps c.args.p.now c.stash.inside.entries.items c.args.path.now is c.requires.entries in
+    nodes_fit c.args.p.now c.args.leaf (leaf_in c.args.positions.now) c.stash.inside.entries.items c.args.path.now (fold gather c.stash.inside.entries.items c.args.path.now)
+    c.requires.leaf is c.requires.path refl keeps c.place_copies.new.path placed
 
 pub invariant_of-stash : goal.invariant_of-stash
 invariant_of-stash c =
     let p_is : c.stash.inside.p ≡ c.args.p.now = ap (λ s. s.shape) c.stash.view_is ∙ c.requires.stash in
     let is : IsStash c.args.p.now c.stash.inside.entries.items = subst (λ s. IsStash s c.stash.inside.entries.items) p_is c.stash.invariant.1 in
+    let len = c.deref_mut.ensures.len in
+    let kept = c.gather_path-count.ensures.len in
+    let back = written_back c.gather_path-count.new.copies _ c.stash.inside.copies.len (omega (arith, kept, len)) in
+    let copies = c.deref_mut-2.ensures.value ∙ back in
+    let chosen_is = ap (λ all. chosen all 0 c.deref-2.result.now) (copies ∙ sym (c.deref.ensures.value ∙ back)) ∙ ap (chosen c.deref.result.now 0) c.deref-2.ensures.value
+    ∙ chosen_gathered c.stash.inside.entries.items c.args.path.now c.deref.result.now c.gather_path-count.result c.rank_copies.new.keys.items is.rises
+    (ap (take c.gather_path-count.result) (c.deref.ensures.value ∙ back) ∙ c.gather_path-count.ensures.copies) c.rank_copies.ensures.ranked in
+    let rest = c.place_copies.ensures.rest ∙ ap (λ es. all_placed c.args.p.now c.args.leaf (leaf_in c.args.positions.now) es 0) chosen_is in
+    let placed = c.place_copies.ensures.path ∙ ap (λ es. lists_on c.args.p.now.l c.args.leaf (all_placed c.args.p.now c.args.leaf (leaf_in c.args.positions.now) es)) chosen_is in
+    let keeps = gathered_keeps c.args.p.now c.stash.inside.entries.items c.args.path.now is c.requires.entries in
+    let l_is : c.stash.inside.p.l ≡ c.args.p.now.l = ap (λ s. s.l) p_is in
     let n_is : c.stash.inside.p.n ≡ c.args.p.now.n = ap (λ s. s.n) p_is in
-    let room = c.gather_path.ensures.room in
-    let same = c.place_entries.ensures.capacity in
-    let fits : IsStash c.args.p.now c.place_entries.new.entries.items =
-    stash_fits c.args.p.now c.args.leaf (leaf_in c.args.positions.now) c.stash.inside.entries.items c.args.path.now c.gather_path.new.entries.items
-    c.requires.leaf is c.requires.path c.gather_path.ensures.items c.gather_path.ensures.stash
-    c.place_entries.new.entries.items c.place_entries.ensures.rest in
-    (c.stash.invariant.0, subst (λ s. IsStash s c.place_entries.new.entries.items) (sym p_is) fits, omega (arith, n_is, room, same))
+    let room = c.stash.invariant.2 in
+    let keys_room = c.stash.invariant.5 in
+    let rest_grown = c.place_copies.ensures.capacity in
+    let rest_same = c.gather_path-count.ensures.capacity in
+    let keys_grown = c.rank_copies.ensures.capacity in
+    let keys_same = c.truncate.ensures.capacity in
+    let fits = stash_fits c.args.p.now c.args.leaf (leaf_in c.args.positions.now) c.stash.inside.entries.items c.args.path.now (fold gather c.stash.inside.entries.items c.args.path.now)
+    c.requires.leaf is c.requires.path refl keeps c.place_copies.new.rest.items rest in (
+      c.stash.invariant.0,
+      subst (λ s. IsStash s c.place_copies.new.rest.items) (sym p_is) fits,
+      omega (arith, room, rest_grown, rest_same),
+      c.stash.invariant.3,
+      c.truncate.ensures.items,
+      omega (arith, keys_room, keys_grown, keys_same),
+    )

@@ -13,7 +13,7 @@ loop-id-init c = record {
   rest = c.requires.rest;
   count = let len = ap length c.requires.nodes in let all = buckets_len c.args.p.now (λ w. []) in omega arith;
   few = let len = ap length c.requires.rest in omega arith;
-  room = c.requires.room;
+  capacity = omega arith;
 }
 
 pub loop-id-preserved : goal.loop-id-preserved
@@ -27,7 +27,7 @@ loop-id-preserved c =
       rest = kept.items ∙ ap (λ rest. rest ++ option_to_list c.place_block-back.result) c.loop-id.invariant.rest ∙ sym placed.1 ∙ ap (λ contents. contents 0) next;
       count = nodes ∙ c.loop-id.invariant.count;
       few = let before = c.loop-id.invariant.few in let len = kept.len in omega arith;
-      room = let before = c.loop-id.invariant.room in let capacity = kept.capacity in omega arith;
+      capacity = let before = c.loop-id.invariant.capacity in let grown = kept.capacity in omega (arith, before, grown);
     }
 
 pub returns-clause-nodes : goal.returns-clause-nodes

@@ -11,5 +11,5 @@ invariant-loop-id l = record {
   rest : l.rest.items ≡ loaded_first l.p (leaf_in l.positions) l.blocks l.id 0;
   count : vec_len l.nodes ≡ node_count l.p.l;
   few : vec_len l.rest ≤ l.id;
-  room : l.p.n ≤ vec_capacity l.rest;
+  capacity : vec_capacity l.fn.rest ≤ vec_capacity l.rest;
 }
