@@ -1,4 +1,4 @@
-//! Evictions in a store of 4,096 blocks of 64 bytes, four to a bucket, in a tree of height 10.
+//! Evictions in a store of blocks of 64 bytes, four to a bucket, in a tree of height 10.
 ghost use Rattle.std.specs.Prelude.{◌≡◌, ◌+◌, ◌^◌, ◌<◌, length, vec_len, IfOk, All};
 ghost use Rattle.tao_base.specs.Tree.{node_count};
 ghost use Rattle.tao_flush.specs.Blocks.{AreNodeEntries};
@@ -18,9 +18,14 @@ pub(crate) enum Turn {
     Rests,
 }
 
-/// Loads the store, and does this many turns.
-pub(crate) fn checksum(alloc: Global, turn: Turn, count: u32) -> Result<u64, anyhow::Error> {
-    let p = Params::new(10, 4, 64, 4_096, 1)?;
+/// Loads a store of `n` blocks, and does this many turns.
+pub(crate) fn checksum(
+    alloc: Global,
+    n: u32,
+    turn: Turn,
+    count: u32,
+) -> Result<u64, anyhow::Error> {
+    let p = Params::new(10, 4, 64, n, 1)?;
     let words = words_of(alloc, p.n())?;
     let blocks = blocks_of(alloc, &p)?;
     ensure!(words.len() == p.n() as usize, "a block has no word");
