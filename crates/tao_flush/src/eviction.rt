@@ -37,9 +37,8 @@ pub fn flush(p: &Params, leaf: u32, path: &mut [Entries], stash: &mut Stash, pos
         path,
         count,
         &mut stash.copies,
-        &stash.keys,
+        &stash.keys[..count],
         &mut stash.entries,
         positions,
     );
-    stash.keys.truncate(0);
 }

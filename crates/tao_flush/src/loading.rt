@@ -40,7 +40,7 @@ pub fn load(
         p: *p,
         entries: rest,
         copies: no_copies(alloc, room)?,
-        keys: Vec::with_capacity(alloc, room)?,
+        keys: vec![in alloc; 0; room]?,
     };
     Ok((Buckets::from_vec(nodes), stash))
 }

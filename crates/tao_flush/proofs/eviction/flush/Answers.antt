@@ -1,5 +1,5 @@
 use Rattle.std.proofs.Common.{◌≡◌, ◌<◌, length, take, fold, All, refl, sym, ap, ◌∙◌, subst, arith}
-use Rattle.std.proofs.lemmas.List.{take-take}
+use Rattle.std.proofs.lemmas.List.{take-take, length-take, length-take-le}
 use Rattle.tao_model.specs.Placement.{Rises}
 use Rattle.tao_model.specs.Passes.{gather}
 use Rattle.tao_flush.specs.Blocks.{IsStash}
@@ -29,9 +29,9 @@ rank_copies-requires-clause-rises c =
     let is : IsStash c.args.p.now c.stash.inside.entries.items = subst (λ s. IsStash s c.stash.inside.entries.items) p_is c.stash.invariant.1 in
     let len = c.deref_mut.ensures.len in
     let kept = c.gather_path-count.ensures.len in
-    let back = written_back c.gather_path-count.new.copies _ c.stash.inside.copies.len (omega (arith, kept, len)) in
     let least = c.gather_path-count.ensures.least in
     let own : c.len-own.result ≡ length c.stash.inside.entries.items = omega arith in
+    let back = written_back c.gather_path-count.new.copies _ c.stash.inside.copies.len (omega (arith, kept, len)) in
     let front = sym (take-take (length c.stash.inside.entries.items) c.gather_path-count.result c.gather_path-count.new.copies least) ∙ ap (take (length c.stash.inside.entries.items)) c.gather_path-count.ensures.copies
     ∙ joined_starts c.stash.inside.entries.items c.args.path.now in
     subst (Rises 0) (sym (ap (λ n. take n c.deref.result.now) own ∙ ap (take (length c.stash.inside.entries.items)) (c.deref.ensures.value ∙ back) ∙ front)) is.rises
@@ -75,8 +75,9 @@ rank_copies-requires-clause-room c =
     let most = c.gather_path-count.ensures.most in
     let kept = c.gather_path-count.ensures.len in
     let fits = c.gather_path-count.ensures.fits in
-    let keys_room = c.stash.invariant.5 in
-    omega (arith, l_is, n_is, few, path, most, keys_room)
+    let keys_room = c.stash.invariant.4 in
+    let keys_len = c.deref_mut-2.ensures.len in
+    omega (arith, l_is, n_is, few, path, most, keys_room, keys_len)
 
 pub place_copies-requires-clause-count : goal.place_copies-requires-clause-count
 place_copies-requires-clause-count c =
@@ -84,7 +85,7 @@ place_copies-requires-clause-count c =
     let kept = c.gather_path-count.ensures.len in
     let back = written_back c.gather_path-count.new.copies _ c.stash.inside.copies.len (omega (arith, kept, len)) in
     let fits = c.gather_path-count.ensures.fits in
-    let same = ap length (c.deref_mut-2.ensures.value ∙ back) in
+    let same = ap length (c.deref_mut-3.ensures.value ∙ back) in
     omega (arith, fits, same)
 
 pub place_copies-requires-clause-ids : goal.place_copies-requires-clause-ids
@@ -94,7 +95,7 @@ place_copies-requires-clause-ids c =
     let len = c.deref_mut.ensures.len in
     let kept = c.gather_path-count.ensures.len in
     let back = written_back c.gather_path-count.new.copies _ c.stash.inside.copies.len (omega (arith, kept, len)) in
-    subst (All (λ e. e.id < c.args.p.now.n)) (sym (ap (take c.gather_path-count.result) (c.deref_mut-2.ensures.value ∙ back) ∙ c.gather_path-count.ensures.copies))
+    subst (All (λ e. e.id < c.args.p.now.n)) (sym (ap (take c.gather_path-count.result) (c.deref_mut-3.ensures.value ∙ back) ∙ c.gather_path-count.ensures.copies))
     (joined_ids c.args.p.now c.stash.inside.entries.items c.args.path.now is c.requires.entries)
 
 pub place_copies-requires-clause-room : goal.place_copies-requires-clause-room
@@ -112,9 +113,28 @@ place_copies-requires-clause-room c =
     let fits = c.gather_path-count.ensures.fits in
     let room = c.stash.invariant.2 in
     let same = c.gather_path-count.ensures.capacity in
-    let keys = c.deref-2.ensures.len in
+    let taken = length-take c.gather_path-count.result c.deref-2.result.now in
+    omega (arith, l_is, n_is, few, path, most, room, same, taken)
+
+pub slice_bounds-place_copies-end : goal.slice_bounds-place_copies-end
+slice_bounds-place_copies-end c =
+    let p_is : c.stash.inside.p ≡ c.args.p.now = ap (λ s. s.shape) c.stash.view_is ∙ c.requires.stash in
+    let is : IsStash c.args.p.now c.stash.inside.entries.items = subst (λ s. IsStash s c.stash.inside.entries.items) p_is c.stash.invariant.1 in
+    let l_is : c.stash.inside.p.l ≡ c.args.p.now.l = ap (λ s. s.l) p_is in
+    let n_is : c.stash.inside.p.n ≡ c.args.p.now.n = ap (λ s. s.n) p_is in
+    let few = stash_few c.args.p.now c.stash.inside.entries.items is in
+    let path = c.requires.path in
+    let copies_room = c.stash.invariant.3 in
+    let len = c.deref_mut.ensures.len in
+    let most = c.gather_path-count.ensures.most in
+    let kept = c.gather_path-count.ensures.len in
+    let fits = c.gather_path-count.ensures.fits in
+    let keys_room = c.stash.invariant.4 in
+    let keys_back = c.deref-2.ensures.value ∙ written_back c.rank_copies.new.keys _ c.stash.inside.keys.len (omega (arith, c.rank_copies.ensures.len, c.deref_mut-2.ensures.len)) in
+    let keys_len = ap length keys_back in
     let ranked = c.rank_copies.ensures.len in
-    omega (arith, l_is, n_is, few, path, most, room, same, keys, ranked)
+    let keys = c.deref_mut-2.ensures.len in
+    sym (length-take-le c.gather_path-count.result c.deref-2.result.now (omega (arith, l_is, n_is, few, path, most, keys_room, keys_len, ranked, keys)))
 
 pub returns-clause-evicted : goal.returns-clause-evicted
 returns-clause-evicted c =
@@ -123,9 +143,10 @@ returns-clause-evicted c =
     let len = c.deref_mut.ensures.len in
     let kept = c.gather_path-count.ensures.len in
     let back = written_back c.gather_path-count.new.copies _ c.stash.inside.copies.len (omega (arith, kept, len)) in
-    let copies = c.deref_mut-2.ensures.value ∙ back in
-    let chosen_is = ap (λ all. chosen all 0 c.deref-2.result.now) (copies ∙ sym (c.deref.ensures.value ∙ back)) ∙ ap (chosen c.deref.result.now 0) c.deref-2.ensures.value
-    ∙ chosen_gathered c.stash.inside.entries.items c.args.path.now c.deref.result.now c.gather_path-count.result c.rank_copies.new.keys.items is.rises
+    let copies = c.deref_mut-3.ensures.value ∙ back in
+    let keys_back = c.deref-2.ensures.value ∙ written_back c.rank_copies.new.keys _ c.stash.inside.keys.len (omega (arith, c.rank_copies.ensures.len, c.deref_mut-2.ensures.len)) in
+    let chosen_is = ap (λ all. chosen all 0 (take c.gather_path-count.result c.deref-2.result.now)) (copies ∙ sym (c.deref.ensures.value ∙ back)) ∙ ap (λ keys. chosen c.deref.result.now 0 (take c.gather_path-count.result keys)) keys_back
+    ∙ chosen_gathered c.stash.inside.entries.items c.args.path.now c.deref.result.now c.gather_path-count.result (take c.gather_path-count.result c.rank_copies.new.keys) is.rises
     (ap (take c.gather_path-count.result) (c.deref.ensures.value ∙ back) ∙ c.gather_path-count.ensures.copies) c.rank_copies.ensures.ranked in
     let rest = c.place_copies.ensures.rest ∙ ap (λ es. all_placed c.args.p.now c.args.leaf (leaf_in c.args.positions.now) es 0) chosen_is in
     let placed = c.place_copies.ensures.path ∙ ap (λ es. lists_on c.args.p.now.l c.args.leaf (all_placed c.args.p.now c.args.leaf (leaf_in c.args.positions.now) es)) chosen_is in
@@ -141,9 +162,10 @@ returns-clause-stash c =
     let len = c.deref_mut.ensures.len in
     let kept = c.gather_path-count.ensures.len in
     let back = written_back c.gather_path-count.new.copies _ c.stash.inside.copies.len (omega (arith, kept, len)) in
-    let copies = c.deref_mut-2.ensures.value ∙ back in
-    let chosen_is = ap (λ all. chosen all 0 c.deref-2.result.now) (copies ∙ sym (c.deref.ensures.value ∙ back)) ∙ ap (chosen c.deref.result.now 0) c.deref-2.ensures.value
-    ∙ chosen_gathered c.stash.inside.entries.items c.args.path.now c.deref.result.now c.gather_path-count.result c.rank_copies.new.keys.items is.rises
+    let copies = c.deref_mut-3.ensures.value ∙ back in
+    let keys_back = c.deref-2.ensures.value ∙ written_back c.rank_copies.new.keys _ c.stash.inside.keys.len (omega (arith, c.rank_copies.ensures.len, c.deref_mut-2.ensures.len)) in
+    let chosen_is = ap (λ all. chosen all 0 (take c.gather_path-count.result c.deref-2.result.now)) (copies ∙ sym (c.deref.ensures.value ∙ back)) ∙ ap (λ keys. chosen c.deref.result.now 0 (take c.gather_path-count.result keys)) keys_back
+    ∙ chosen_gathered c.stash.inside.entries.items c.args.path.now c.deref.result.now c.gather_path-count.result (take c.gather_path-count.result c.rank_copies.new.keys) is.rises
     (ap (take c.gather_path-count.result) (c.deref.ensures.value ∙ back) ∙ c.gather_path-count.ensures.copies) c.rank_copies.ensures.ranked in
     let rest = c.place_copies.ensures.rest ∙ ap (λ es. all_placed c.args.p.now c.args.leaf (leaf_in c.args.positions.now) es 0) chosen_is in
     let placed = c.place_copies.ensures.path ∙ ap (λ es. lists_on c.args.p.now.l c.args.leaf (all_placed c.args.p.now c.args.leaf (leaf_in c.args.positions.now) es)) chosen_is in
@@ -158,9 +180,10 @@ returns-clause-entries c =
     let len = c.deref_mut.ensures.len in
     let kept = c.gather_path-count.ensures.len in
     let back = written_back c.gather_path-count.new.copies _ c.stash.inside.copies.len (omega (arith, kept, len)) in
-    let copies = c.deref_mut-2.ensures.value ∙ back in
-    let chosen_is = ap (λ all. chosen all 0 c.deref-2.result.now) (copies ∙ sym (c.deref.ensures.value ∙ back)) ∙ ap (chosen c.deref.result.now 0) c.deref-2.ensures.value
-    ∙ chosen_gathered c.stash.inside.entries.items c.args.path.now c.deref.result.now c.gather_path-count.result c.rank_copies.new.keys.items is.rises
+    let copies = c.deref_mut-3.ensures.value ∙ back in
+    let keys_back = c.deref-2.ensures.value ∙ written_back c.rank_copies.new.keys _ c.stash.inside.keys.len (omega (arith, c.rank_copies.ensures.len, c.deref_mut-2.ensures.len)) in
+    let chosen_is = ap (λ all. chosen all 0 (take c.gather_path-count.result c.deref-2.result.now)) (copies ∙ sym (c.deref.ensures.value ∙ back)) ∙ ap (λ keys. chosen c.deref.result.now 0 (take c.gather_path-count.result keys)) keys_back
+    ∙ chosen_gathered c.stash.inside.entries.items c.args.path.now c.deref.result.now c.gather_path-count.result (take c.gather_path-count.result c.rank_copies.new.keys) is.rises
     (ap (take c.gather_path-count.result) (c.deref.ensures.value ∙ back) ∙ c.gather_path-count.ensures.copies) c.rank_copies.ensures.ranked in
     let rest = c.place_copies.ensures.rest ∙ ap (λ es. all_placed c.args.p.now c.args.leaf (leaf_in c.args.positions.now) es 0) chosen_is in
     let placed = c.place_copies.ensures.path ∙ ap (λ es. lists_on c.args.p.now.l c.args.leaf (all_placed c.args.p.now c.args.leaf (leaf_in c.args.positions.now) es)) chosen_is in
@@ -175,9 +198,10 @@ invariant_of-stash c =
     let len = c.deref_mut.ensures.len in
     let kept = c.gather_path-count.ensures.len in
     let back = written_back c.gather_path-count.new.copies _ c.stash.inside.copies.len (omega (arith, kept, len)) in
-    let copies = c.deref_mut-2.ensures.value ∙ back in
-    let chosen_is = ap (λ all. chosen all 0 c.deref-2.result.now) (copies ∙ sym (c.deref.ensures.value ∙ back)) ∙ ap (chosen c.deref.result.now 0) c.deref-2.ensures.value
-    ∙ chosen_gathered c.stash.inside.entries.items c.args.path.now c.deref.result.now c.gather_path-count.result c.rank_copies.new.keys.items is.rises
+    let copies = c.deref_mut-3.ensures.value ∙ back in
+    let keys_back = c.deref-2.ensures.value ∙ written_back c.rank_copies.new.keys _ c.stash.inside.keys.len (omega (arith, c.rank_copies.ensures.len, c.deref_mut-2.ensures.len)) in
+    let chosen_is = ap (λ all. chosen all 0 (take c.gather_path-count.result c.deref-2.result.now)) (copies ∙ sym (c.deref.ensures.value ∙ back)) ∙ ap (λ keys. chosen c.deref.result.now 0 (take c.gather_path-count.result keys)) keys_back
+    ∙ chosen_gathered c.stash.inside.entries.items c.args.path.now c.deref.result.now c.gather_path-count.result (take c.gather_path-count.result c.rank_copies.new.keys) is.rises
     (ap (take c.gather_path-count.result) (c.deref.ensures.value ∙ back) ∙ c.gather_path-count.ensures.copies) c.rank_copies.ensures.ranked in
     let rest = c.place_copies.ensures.rest ∙ ap (λ es. all_placed c.args.p.now c.args.leaf (leaf_in c.args.positions.now) es 0) chosen_is in
     let placed = c.place_copies.ensures.path ∙ ap (λ es. lists_on c.args.p.now.l c.args.leaf (all_placed c.args.p.now c.args.leaf (leaf_in c.args.positions.now) es)) chosen_is in
@@ -185,17 +209,13 @@ invariant_of-stash c =
     let l_is : c.stash.inside.p.l ≡ c.args.p.now.l = ap (λ s. s.l) p_is in
     let n_is : c.stash.inside.p.n ≡ c.args.p.now.n = ap (λ s. s.n) p_is in
     let room = c.stash.invariant.2 in
-    let keys_room = c.stash.invariant.5 in
     let rest_grown = c.place_copies.ensures.capacity in
     let rest_same = c.gather_path-count.ensures.capacity in
-    let keys_grown = c.rank_copies.ensures.capacity in
-    let keys_same = c.truncate.ensures.capacity in
     let fits = stash_fits c.args.p.now c.args.leaf (leaf_in c.args.positions.now) c.stash.inside.entries.items c.args.path.now (fold gather c.stash.inside.entries.items c.args.path.now)
     c.requires.leaf is c.requires.path refl keeps c.place_copies.new.rest.items rest in (
       c.stash.invariant.0,
       subst (λ s. IsStash s c.place_copies.new.rest.items) (sym p_is) fits,
       omega (arith, room, rest_grown, rest_same),
       c.stash.invariant.3,
-      c.truncate.ensures.items,
-      omega (arith, keys_room, keys_grown, keys_same),
+      c.stash.invariant.4,
     )

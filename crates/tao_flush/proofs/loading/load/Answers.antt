@@ -9,12 +9,11 @@ invariant_of-stash c =
     let one = c.in_ok-rest.ensures.exact in
     let kept = c.in_ok-place_blocks.ensures.capacity in
     let two = c.in_ok-no_copies.ensures in
-    let three = c.in_ok-with_capacity.ensures.exact in (
+    let three = c.in_ok-vec.ensures.len in (
       c.most_copies-room.ensures.shape,
       load_stash_fits c.args.p.now (leaf_in c.args.positions.now) c.args.blocks.now c.place_blocks.new.rest.items c.requires.count c.requires.values c.in_ok-place_blocks.ensures.rest,
       omega (arith, room, one, kept),
       omega (arith, room, two),
-      c.in_ok-with_capacity.ensures.items,
       omega (arith, room, three),
     )
 

@@ -8,11 +8,10 @@ invariant_of-result c =
     let room = c.most_copies-room.ensures.room in
     let one = c.in_ok-with_capacity.ensures.exact in
     let two = c.in_ok-no_copies.ensures in
-    let three = c.in_ok-with_capacity-2.ensures.exact in (
+    let three = c.in_ok-vec.ensures.len in (
       c.most_copies-room.ensures.shape,
       rw c.in_ok-with_capacity.ensures.items (record { rises = tt; each = All-nil (IsEntry c.args.p.now) }),
       omega (arith, room, one),
       omega (arith, room, two),
-      c.in_ok-with_capacity-2.ensures.items,
       omega (arith, room, three),
     )
