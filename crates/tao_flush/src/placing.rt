@@ -14,6 +14,8 @@ use tao_base::{Entries, Entry, Params};
 
 /// Puts the first copy of each block into the empty nodes of the path to a leaf, in the order of the keys, which are those of the first
 /// copies, as many as `count`. What finds no room goes to the list of the rest.
+// a function of its own, so that its loops have all registers
+#[inline(never)]
 pub(crate) fn place_copies(
     alloc: Global,
     p: &Params,
@@ -40,13 +42,15 @@ pub(crate) fn place_copies(
 {
     // a reader tells that the blocks can be counted
     let _count = p.n();
+    // a copy of its own, which no write can change
+    let p = *p;
     let mut low = 0;
     for i in 0..keys.len() {
         let place = place_of_key(keys[i]);
         let id = copies[place].id;
         if low <= id {
             low = id + 1;
-            place_entry(alloc, p, leaf, path, rest, &mut copies[place], positions);
+            place_entry(alloc, &p, leaf, path, rest, &mut copies[place], positions);
         } else {
             // a later copy
             take(alloc, &mut copies[place]);
@@ -73,7 +77,7 @@ fn place_entry(
     ensures most { vec_len rest.new ≤ vec_len rest.old + 1 }
     ensures capacity { vec_capacity rest.old ≤ vec_capacity rest.new }
 {
-    match deepest_with_room(p, leaf, positions.leaf(entry.id), path) {
+    match deepest_with_room(p, leaf, positions.leaf_below(p.l(), entry.id), path) {
         Some(depth) => push_within(&mut path[depth as usize], take(alloc, entry)),
         None => push_rest(rest, take(alloc, entry)),
     }
