@@ -40,7 +40,7 @@ pub(crate) fn place_copies(
     ensures rest { rest.new.items ≡ all_placed p.now leaf (leaf_in positions.now) (chosen copies.old 0 keys.now) 0 }
     ensures capacity { vec_capacity rest.old ≤ vec_capacity rest.new }
 {
-    // a reader tells that the blocks can be counted
+    // a reader tells that the number of blocks fits 32 bits
     let _count = p.n();
     // a copy of its own, which no write can change
     let p = *p;
@@ -77,7 +77,7 @@ fn place_entry(
     ensures most { vec_len rest.new ≤ vec_len rest.old + 1 }
     ensures capacity { vec_capacity rest.old ≤ vec_capacity rest.new }
 {
-    match deepest_with_room(p, leaf, positions.leaf_below(p.l(), entry.id), path) {
+    match deepest_with_room(p, leaf, positions.leaf_at_height(p.l(), entry.id), path) {
         Some(depth) => push_within(&mut path[depth as usize], take(alloc, entry)),
         None => push_rest(rest, take(alloc, entry)),
     }

@@ -46,11 +46,11 @@ impl Positions {
         ensures value { result ≡ leaf_in self.now block }
         ensures leaf { result < 2 ^ self.now.shape.l }
     {
-        self.leaf_below(self.p.l(), block)
+        self.leaf_at_height(self.p.l(), block)
     }
 
     // The same, by callers that have the height at hand.
-    pub(crate) fn leaf_below(&self, l: u32, block: u32) -> u32
+    pub(crate) fn leaf_at_height(&self, l: u32, block: u32) -> u32
         requires height { l ≡ self.now.shape.l }
         requires block { block < self.now.shape.n }
         ensures value { result ≡ leaf_in self.now block }
