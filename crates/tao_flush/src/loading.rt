@@ -8,9 +8,8 @@ ghost use Rattle.tao_flush.specs.State.{leaf_in};
 ghost use Rattle.tao_flush.specs.Blocks.{IsStash, AreNodeEntries};
 ghost use Rattle.tao_flush.specs.Loads.{IsLoaded, LoadsNext, bucket_of, has_room};
 
-use crate::placing::push_within;
+use crate::placing::{push_rest, push_within};
 use crate::positions::Positions;
-use crate::rising::insert_within;
 use crate::stash::{Stash, most_copies, no_copies};
 use std::alloc::Global;
 use tao_base::{Block, Bucket, Buckets, Entries, Entry, NoMemory, Params, path_node};
@@ -94,8 +93,7 @@ fn keep(rest: &mut Vec<Entry>, back: Option<Entry>)
     ensures capacity { vec_capacity rest.old ≤ vec_capacity rest.new }
 {
     if let Some(entry) = back {
-        let end = rest.len();
-        insert_within(rest, end, entry);
+        push_rest(rest, entry);
     }
 }
 

@@ -83,7 +83,8 @@ fn place_entry(
     }
 }
 
-fn push_rest(rest: &mut Vec<Entry>, entry: Entry)
+/// Adds an entry to the rest, which has room.
+pub(crate) fn push_rest(rest: &mut Vec<Entry>, entry: Entry)
     requires { vec_len rest.old < vec_capacity rest.old }
     ensures items { rest.new.items ≡ rest.old.items ++ entry ∷ [] }
     ensures len { vec_len rest.new ≡ vec_len rest.old + 1 }

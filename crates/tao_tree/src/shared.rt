@@ -46,8 +46,8 @@ impl SharedTree {
         &self.p
     }
 
-    /// Copies the buckets of the path to the leaf, the root's first, as they are at one moment. Since a lock tells nothing of what it guards, the
-    /// contract says that they are buckets of some tree; that they are this one's is tested.
+    /// Copies the buckets of the path to the leaf, the root's first, as they are at one moment. Since a lock tells nothing of what it
+    /// guards, the contract says that they are buckets of some tree; that they are this one's is tested.
     pub fn fetch_path<R: Wait>(&self, rt: &R, leaf: u32, out: &mut [u8])
         requires leaf { leaf < 2 ^ self.now.l }
         requires len { length out.old ≡ (self.now.l + 1) * bucket_len self.now }

@@ -8,7 +8,7 @@ returns-in-Some-clause-placed c =
     let deepest = rw c.leaf_at_height.ensures.value at c.in-Some.ensures.deepest in
     let other : leaf_in c.args.positions.now c.args.entry.now.id < 2 ^ c.args.p.now.l =
     subst (λ s. leaf_in c.args.positions.now c.args.entry.now.id < 2 ^ s.l) c.requires.positions (rw c.leaf_at_height.ensures.value at c.leaf_at_height.ensures.leaf) in
-    rw (c.push_within.ensures, c.take.ensures)
+    rw (c.push_within.ensures, c.take.ensures.entry)
     (places_there c.args.p.now c.args.leaf (leaf_in c.args.positions.now) c.args.path.now c.args.rest.now.items c.args.entry.now c.in-Some.depth c.index-path-depth.result c.requires.leaf other deepest)
 
 pub returns-in-None-clause-placed : goal.returns-in-None-clause-placed
@@ -16,5 +16,5 @@ returns-in-None-clause-placed c =
     let deepest = rw c.leaf_at_height.ensures.value at c.in-None.ensures.deepest in
     let other : leaf_in c.args.positions.now c.args.entry.now.id < 2 ^ c.args.p.now.l =
     subst (λ s. leaf_in c.args.positions.now c.args.entry.now.id < 2 ^ s.l) c.requires.positions (rw c.leaf_at_height.ensures.value at c.leaf_at_height.ensures.leaf) in
-    rw (c.push_rest.ensures.items, c.take-in-None.ensures)
+    rw (c.push_rest.ensures.items, c.take-in-None.ensures.entry)
     (places_none c.args.p.now c.args.leaf (leaf_in c.args.positions.now) c.args.path.now c.args.rest.now.items c.args.entry.now c.requires.leaf other deepest)
