@@ -10,7 +10,7 @@ ghost use Rattle.tao_flush.specs.Loads.{IsLoaded, LoadsNext, bucket_of, has_room
 
 use crate::placing::{push_rest, push_within};
 use crate::positions::Positions;
-use crate::stash::{Stash, most_copies, no_copies};
+use crate::stash::{Stash, most_copies};
 use std::alloc::Global;
 use tao_base::{Block, Bucket, Buckets, Entries, Entry, NoMemory, Params, path_node};
 
@@ -31,16 +31,9 @@ pub fn load(
     ensures shape { IfOk result (λ r. r.1.shape ≡ p.now) }
 {
     let mut nodes = empty_nodes(alloc, p)?;
-    let room = most_copies(p);
-    let mut rest = Vec::with_capacity(alloc, room)?;
+    let mut rest = Vec::with_capacity(alloc, most_copies(p))?;
     place_blocks(alloc, p, positions, blocks, &mut nodes, &mut rest)?;
-    let stash = Stash {
-        alloc,
-        p: *p,
-        entries: rest,
-        copies: no_copies(alloc, room)?,
-        keys: vec![in alloc; 0; room]?,
-    };
+    let stash = Stash::with_entries(alloc, p, rest)?;
     Ok((Buckets::from_vec(nodes), stash))
 }
 
