@@ -36,6 +36,20 @@ rank_copies-requires-clause-rises c =
     ∙ joined_starts c.stash.inside.entries.items c.args.path.now in
     subst (Rises 0) (sym (ap (λ n. take n c.deref.result.now) own ∙ ap (take (length c.stash.inside.entries.items)) (c.deref.ensures.value ∙ back) ∙ front)) is.rises
 
+pub rank_copies-requires-clause-ids : goal.rank_copies-requires-clause-ids
+rank_copies-requires-clause-ids c k d h =
+    let p_is : c.stash.inside.p ≡ c.args.p.now = ap (λ s. s.shape) c.stash.view_is ∙ c.requires.stash in
+    let is : IsStash c.args.p.now c.stash.inside.entries.items = subst (λ s. IsStash s c.stash.inside.entries.items) p_is c.stash.invariant.1 in
+    let len = c.deref_mut.ensures.len in
+    let kept = c.gather_path-count.ensures.len in
+    let back = written_back c.gather_path-count.new.copies _ c.stash.inside.copies.len (omega (arith, kept, len)) in
+    let ids : All (λ e. e.id < c.args.p.now.n) (take c.gather_path-count.result c.deref.result.now) =
+    subst (All (λ e. e.id < c.args.p.now.n)) (sym (ap (take c.gather_path-count.result) (c.deref.ensures.value ∙ back) ∙ c.gather_path-count.ensures.copies))
+    (joined_ids c.args.p.now c.stash.inside.entries.items c.args.path.now is c.requires.entries) in
+    let below = ids k d h in
+    let blocks = blocks_few c.args.p.now c.l-within.ensures.shape in
+    omega (arith, below, blocks)
+
 pub rank_copies-requires-clause-few : goal.rank_copies-requires-clause-few
 rank_copies-requires-clause-few c =
     let p_is : c.stash.inside.p ≡ c.args.p.now = ap (λ s. s.shape) c.stash.view_is ∙ c.requires.stash in
