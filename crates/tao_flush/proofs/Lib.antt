@@ -7,4 +7,5 @@ mod PlacedLists
 mod RankedCopies
 mod RisingLists
 mod SharedPaths
+mod SortedKeys
 mod WholePasses

@@ -27,9 +27,8 @@ pub fn flush(p: &Params, leaf: u32, path: &mut [Entries], stash: &mut Stash, pos
 {
     // a reader tells that the parameters are within their limits
     let _within = p.l();
-    let own = stash.entries.len();
     let count = gather_path(stash.alloc, &mut stash.entries, path, &mut stash.copies);
-    rank_copies(own, count, &stash.copies, &mut stash.keys);
+    rank_copies(p.n() / 2, count, &stash.copies, &mut stash.keys);
     place_copies(
         stash.alloc,
         p,

@@ -1,13 +1,12 @@
 use Rattle.std.proofs.Common.{◌≡◌, ◌<◌, length, take, fold, All, refl, sym, ap, ◌∙◌, subst, arith}
-use Rattle.std.proofs.lemmas.List.{take-take, length-take, length-take-le}
-use Rattle.tao_model.specs.Placement.{Rises}
+use Rattle.std.proofs.lemmas.List.{length-take, length-take-le}
 use Rattle.tao_model.specs.Passes.{gather}
 use Rattle.tao_flush.specs.Blocks.{IsStash}
 use Rattle.tao_flush.specs.Placing.{lists_on, all_placed}
 use Rattle.tao_flush.specs.Ranking.{chosen}
 use Rattle.tao_flush.specs.State.{leaf_in}
 use Rattle.tao_flush.proofs.Evicted.{evicts, stash_fits, nodes_fit}
-use Rattle.tao_flush.proofs.GatheredCopies.{joined_starts, joined_ids, chosen_gathered, gathered_keeps, written_back, blocks_few}
+use Rattle.tao_flush.proofs.GatheredCopies.{joined_ids, chosen_gathered, gathered_keeps, written_back, blocks_few}
 use Rattle.tao_flush.proofs.RisingLists.{stash_few}
 use Rattle.tao_flush.proofs.eviction.flush.Goals as goal
 
@@ -22,19 +21,6 @@ gather_path-count-requires-clause-room c =
     let copies_room = c.stash.invariant.3 in
     let len = c.deref_mut.ensures.len in
     omega (arith, l_is, n_is, few, path, copies_room, len)
-
-pub rank_copies-requires-clause-rises : goal.rank_copies-requires-clause-rises
-rank_copies-requires-clause-rises c =
-    let p_is : c.stash.inside.p ≡ c.args.p.now = ap (λ s. s.shape) c.stash.view_is ∙ c.requires.stash in
-    let is : IsStash c.args.p.now c.stash.inside.entries.items = subst (λ s. IsStash s c.stash.inside.entries.items) p_is c.stash.invariant.1 in
-    let len = c.deref_mut.ensures.len in
-    let kept = c.gather_path-count.ensures.len in
-    let least = c.gather_path-count.ensures.least in
-    let own : c.len-own.result ≡ length c.stash.inside.entries.items = omega arith in
-    let back = written_back c.gather_path-count.new.copies _ c.stash.inside.copies.len (omega (arith, kept, len)) in
-    let front = sym (take-take (length c.stash.inside.entries.items) c.gather_path-count.result c.gather_path-count.new.copies least) ∙ ap (take (length c.stash.inside.entries.items)) c.gather_path-count.ensures.copies
-    ∙ joined_starts c.stash.inside.entries.items c.args.path.now in
-    subst (Rises 0) (sym (ap (λ n. take n c.deref.result.now) own ∙ ap (take (length c.stash.inside.entries.items)) (c.deref.ensures.value ∙ back) ∙ front)) is.rises
 
 pub rank_copies-requires-clause-ids : goal.rank_copies-requires-clause-ids
 rank_copies-requires-clause-ids c k d h =
