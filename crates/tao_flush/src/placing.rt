@@ -8,7 +8,7 @@ ghost use Rattle.tao_flush.specs.Ranking.{chosen, IsRanked};
 
 use crate::gathering::take;
 use crate::positions::Positions;
-use crate::ranking::place_of_key;
+use crate::ranking::{id_of_key, place_of_key};
 use std::alloc::Global;
 use tao_base::{Entries, Entry, Params};
 
@@ -46,11 +46,20 @@ pub(crate) fn place_copies(
     let p = *p;
     let mut low = 0;
     for i in 0..keys.len() {
+        let id = id_of_key(keys[i]);
         let place = place_of_key(keys[i]);
-        let id = copies[place].id;
         if low <= id {
             low = id + 1;
-            place_entry(alloc, &p, leaf, path, rest, &mut copies[place], positions);
+            place_entry(
+                alloc,
+                &p,
+                leaf,
+                path,
+                rest,
+                id,
+                &mut copies[place],
+                positions,
+            );
         } else {
             // a later copy
             take(alloc, &mut copies[place]);
@@ -58,26 +67,28 @@ pub(crate) fn place_copies(
     }
 }
 
-// Takes the entry to where it is to go: into a node, or behind the rest.
+// Takes the entry of this id to where it is to go: into a node, or behind the rest.
 fn place_entry(
     alloc: Global,
     p: &Params,
     leaf: u32,
     path: &mut [Entries],
     rest: &mut Vec<Entry>,
+    id: u32,
     entry: &mut Entry,
     positions: &Positions,
 )
     requires leaf { leaf < 2 ^ p.now.l }
     requires positions { positions.now.shape ≡ p.now }
-    requires id { entry.old.id < p.now.n }
+    requires id { id ≡ entry.old.id }
+    requires block { id < p.now.n }
     requires path { length path.old ≡ p.now.l + 1 }
     requires room { vec_len rest.old < vec_capacity rest.old }
     ensures placed { PlacesNext p.now leaf (leaf_in positions.now) path.old rest.old.items entry.old path.new rest.new.items }
     ensures most { vec_len rest.new ≤ vec_len rest.old + 1 }
     ensures capacity { vec_capacity rest.old ≤ vec_capacity rest.new }
 {
-    match deepest_with_room(p, leaf, positions.leaf_at_height(p.l(), entry.id), path) {
+    match deepest_with_room(p, leaf, positions.leaf_at_height(p.l(), id), path) {
         Some(depth) => push_within(&mut path[depth as usize], take(alloc, entry)),
         None => push_rest(rest, take(alloc, entry)),
     }
