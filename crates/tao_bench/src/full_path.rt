@@ -1,5 +1,5 @@
-//! Evictions of a full path of height 16, eight blocks of four bytes to a node, with 20 blocks in the stash.
-ghost use Rattle.std.specs.Prelude.{◌≡◌, ◌+◌, ◌<◌, length, All};
+//! Evictions of a full path of height 16, eight blocks of four bytes to a node, with some blocks in the stash.
+ghost use Rattle.std.specs.Prelude.{◌≡◌, ◌+◌, ◌^◌, ◌<◌, ◌≤◌, length, All};
 ghost use Rattle.tao_flush.specs.Blocks.{AreNodeEntries};
 
 use crate::flush::{block_of, empty_path};
@@ -7,18 +7,24 @@ use std::alloc::Global;
 use tao_base::{Entries, NoMemory, Params};
 use tao_flush::{Positions, Stash, flush};
 
-const IN_STASH: u32 = 20;
-
 /// Evicts this many paths, in a store of `n` blocks. Before each, the blocks of the path get other words, so that eight can go to each
-/// node and no deeper, and 20 find no room.
-pub(crate) fn checksum(alloc: Global, n: u32, count: u32) -> Result<u64, anyhow::Error> {
+/// node and no deeper, and `in_stash` of them find no room.
+pub(crate) fn checksum(
+    alloc: Global,
+    n: u32,
+    in_stash: u32,
+    count: u32,
+) -> Result<u64, anyhow::Error>
+    requires { in_stash ≤ 2 ^ 16 }
+{
     let p = Params::new(16, 8, 4, n, 1)?;
     let words = vec![in alloc; 0; p.n() as usize]?;
     let mut positions = Positions::new(alloc, &p, &words)?;
     let mut stash = Stash::with_room(alloc, &p)?;
-    fill(alloc, &p, &mut stash)?;
+    let all = p.z() * (p.l() + 1) + in_stash;
+    fill(alloc, &p, all, &mut stash)?;
     let mut path = empty_path(alloc, &p)?;
-    evict_paths(&p, &mut positions, &mut path, &mut stash, count);
+    evict_paths(&p, all, &mut positions, &mut path, &mut stash, count);
     let mut sum = 0u64;
     for list in &path {
         for entry in list.as_slice() {
@@ -28,37 +34,33 @@ pub(crate) fn checksum(alloc: Global, n: u32, count: u32) -> Result<u64, anyhow:
     Ok(sum)
 }
 
-// How many blocks the path and the stash have.
-fn block_count(p: &Params) -> u32
-    ensures { 0 < result }
-{
-    p.z() * (p.l() + 1) + IN_STASH
-}
-
-// The blocks lie far apart, so that their words do.
-fn block_id(p: &Params, i: u32) -> u32
+// The blocks, so many in all, lie far apart, so that their words do.
+fn block_id(p: &Params, all: u32, i: u32) -> u32
+    requires { 0 < all }
     ensures { result < p.now.n }
 {
-    i.wrapping_mul(p.n() / block_count(p)) % p.n()
+    i.wrapping_mul(p.n() / all) % p.n()
 }
 
-fn fill(alloc: Global, p: &Params, stash: &mut Stash) -> Result<(), NoMemory>
+fn fill(alloc: Global, p: &Params, all: u32, stash: &mut Stash) -> Result<(), NoMemory>
     requires { stash.old.shape ≡ p.now }
     ensures { stash.new.shape ≡ p.now }
 {
-    for i in 0..block_count(p) {
-        stash.put(block_id(p, i), block_of(alloc, p)?);
+    for i in 0..all {
+        stash.put(block_id(p, all, i), block_of(alloc, p)?);
     }
     Ok(())
 }
 
 fn evict_paths(
     p: &Params,
+    all: u32,
     positions: &mut Positions,
     path: &mut [Entries],
     stash: &mut Stash,
     count: u32,
 )
+    requires all { 0 < all }
     requires positions { positions.old.shape ≡ p.now }
     requires stash { stash.old.shape ≡ p.now }
     requires path { length path.old ≡ p.now.l + 1 }
@@ -66,19 +68,19 @@ fn evict_paths(
 {
     for turn in 0..count {
         let leaf = turn.wrapping_mul(0x9e37_79b1) % (1 << p.l());
-        move_blocks(p, positions, leaf, turn.wrapping_mul(40_503));
+        move_blocks(p, all, positions, leaf, turn.wrapping_mul(40_503));
         flush(p, leaf, path, stash, positions);
     }
 }
 
-fn move_blocks(p: &Params, positions: &mut Positions, leaf: u32, turn: u32)
-    requires { positions.old.shape ≡ p.now }
+fn move_blocks(p: &Params, all: u32, positions: &mut Positions, leaf: u32, turn: u32)
+    requires all { 0 < all }
+    requires positions { positions.old.shape ≡ p.now }
     ensures { positions.new.shape ≡ p.now }
 {
-    let all = block_count(p);
     for i in 0..all {
         let depth = i.wrapping_add(turn) % all / p.z();
-        positions.set(block_id(p, i), leaf_beside(p, leaf, depth));
+        positions.set(block_id(p, all, i), leaf_beside(p, leaf, depth));
     }
 }
 

@@ -39,8 +39,10 @@ fn main(rt: HostRuntime) -> Result<(), anyhow::Error> {
             "flush-rest" => flush::checksum(alloc, 4_096, Turn::Rests, count)?,
             "flush-few" => flush::checksum(alloc, 1_024, Turn::Evicts, count)?,
             "flush-few-rest" => flush::checksum(alloc, 1_024, Turn::Rests, count)?,
-            "flush-1024" => full_path::checksum(alloc, 1_024, count)?,
-            "flush-524288" => full_path::checksum(alloc, 524_288, count)?,
+            "flush-1024" => full_path::checksum(alloc, 1_024, 20, count)?,
+            "flush-524288" => full_path::checksum(alloc, 524_288, 20, count)?,
+            "flush-stash-300" => full_path::checksum(alloc, 524_288, 300, count)?,
+            "flush-stash-3000" => full_path::checksum(alloc, 524_288, 3_000, count)?,
             "slots" => slots::checksum(alloc, count)?,
             _ => bail!("no such command"),
         };
