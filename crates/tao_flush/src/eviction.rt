@@ -25,10 +25,9 @@ pub fn flush(p: &Params, leaf: u32, path: &mut [Entries], stash: &mut Stash, pos
     ensures stash { IsStash p.now stash.new.entries }
     ensures entries { All (AreNodeEntries p.now) path.new }
 {
-    // a reader tells that the parameters are within their limits
-    let _within = p.l();
+    let blocks = p.n();
     let count = gather_path(stash.alloc, &mut stash.entries, path, &mut stash.copies);
-    rank_copies(p.n() / 2, count, &stash.copies, &mut stash.keys);
+    rank_copies(blocks / 2, count, &stash.copies, &mut stash.keys);
     place_copies(
         stash.alloc,
         p,

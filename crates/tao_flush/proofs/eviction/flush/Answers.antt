@@ -33,7 +33,7 @@ rank_copies-requires-clause-ids c k d h =
     subst (All (λ e. e.id < c.args.p.now.n)) (sym (ap (take c.gather_path-count.result) (c.deref.ensures.value ∙ back) ∙ c.gather_path-count.ensures.copies))
     (joined_ids c.args.p.now c.stash.inside.entries.items c.args.path.now is c.requires.entries) in
     let below = ids k d h in
-    let blocks = blocks_few c.args.p.now c.l-within.ensures.shape in
+    let blocks = blocks_few c.args.p.now c.n-blocks.ensures.shape in
     omega (arith, below, blocks)
 
 pub rank_copies-requires-clause-few : goal.rank_copies-requires-clause-few
@@ -49,8 +49,8 @@ rank_copies-requires-clause-few c =
     let most = c.gather_path-count.ensures.most in
     let kept = c.gather_path-count.ensures.len in
     let fits = c.gather_path-count.ensures.fits in
-    let blocks = blocks_few c.args.p.now c.l-within.ensures.shape in
-    let high = c.l-within.ensures.shape.height_high in
+    let blocks = blocks_few c.args.p.now c.n-blocks.ensures.shape in
+    let high = c.n-blocks.ensures.shape.height_high in
     omega (arith, l_is, n_is, few, path, most, blocks, high)
 
 pub rank_copies-requires-clause-count : goal.rank_copies-requires-clause-count
