@@ -67,7 +67,8 @@ pub(crate) fn place_copies(
     }
 }
 
-// Takes the entry of this id to where it is to go: into a node, or behind the rest.
+// Takes the entry of this id to where it is to go: into a node, or behind the rest. The id is given, since the key tells it before the entry
+// is read.
 fn place_entry(
     alloc: Global,
     p: &Params,
