@@ -5,7 +5,7 @@ use Rattle.tao_base.specs.declared.storage.Entry.{Entry}
 use Rattle.tao_base.specs.Limits.{Shape}
 use Rattle.tao_base.specs.Tree.{path, is_on_path}
 use Rattle.tao_model.proofs.OneEviction.{eviction_is_placed}
-use Rattle.tao_contents.specs.Steps.{take_in, with_path, put, evict}
+use Rattle.tao_held.specs.Steps.{take_in, with_path, put, evict}
 use Rattle.tao_contents.specs.CleanLaws.{CleanResidents, touching, RealFetchKeepsClean, FakeFetchKeepsClean, IssueCleans, AcknowledgementKeepsClean, CurrentIsWritten}
 use Rattle.tao_contents.proofs.Looks.{outside}
 

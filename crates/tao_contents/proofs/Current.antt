@@ -8,7 +8,7 @@ use Rattle.tao_model.specs.Placement.{look, first_copy, may_evict, IsEvicted}
 use Rattle.tao_model.specs.FreshCopy.{current_contents}
 use Rattle.tao_model.proofs.FallingPaths.{has}
 use Rattle.tao_model.proofs.OnePlacement.{placed_alike}
-use Rattle.tao_contents.specs.Steps.{take_in, with_path, put}
+use Rattle.tao_held.specs.Steps.{take_in, with_path, put}
 use Rattle.tao_contents.specs.FetchLaws.{IsHonest}
 use Rattle.tao_contents.proofs.Looks.{stash_is_off, inside_is, first_alike}
 

@@ -6,7 +6,7 @@ use Rattle.tao_base.specs.Tree.{path}
 use Rattle.tao_model.specs.Placement.{look}
 use Rattle.tao_model.specs.FreshCopy.{FreshCopy, current_contents}
 use Rattle.tao_model.proofs.OneEviction.{eviction_is_placed}
-use Rattle.tao_contents.specs.Steps.{take_in, with_path, put, evict, found_copy}
+use Rattle.tao_held.specs.Steps.{take_in, with_path, put, evict, found_copy}
 use Rattle.tao_contents.specs.Moves.{CountsInside, CountsOutside, FreshToEvict}
 use Rattle.tao_contents.specs.FetchLaws.{TakingInKeeps, FetchFinds, RealFetchKeeps, FakeFetchKeeps}
 use Rattle.tao_contents.proofs.Looks.{first_alike}

@@ -13,7 +13,7 @@ use Rattle.tao_model.proofs.FallingPaths.{has}
 use Rattle.tao_model.proofs.FirstCopies.{gathers_more}
 use Rattle.tao_model.proofs.OnePlacement.{none_either}
 use Rattle.tao_model.proofs.OneEviction.{first_copy_stays}
-use Rattle.tao_contents.specs.Steps.{entry_of, put}
+use Rattle.tao_held.specs.Steps.{entry_of, put}
 use Rattle.tao_contents.specs.Moves.{FreshAlike, LookUpFinds, PutIs, PutIsFound, CountsInside, CountsOutside, FreshMayBeEvicted, PutMayBeEvicted, EvictionKeeps}
 use Rattle.tao_contents.proofs.Looks.{inside_either, outside_is, outside, first_one, first_none, none_first}
 

@@ -10,7 +10,7 @@ use Rattle.tao_base.specs.Tree.{is_on_path}
 use Rattle.tao_model.specs.Placement.{look, first_copy}
 use Rattle.tao_model.specs.FreshCopy.{OneCopy, FreshCopy, current_contents}
 use Rattle.tao_model.proofs.FallingPaths.{has}
-use Rattle.tao_contents.specs.Steps.{value_or_zeros}
+use Rattle.tao_held.specs.Steps.{value_or_zeros}
 use Rattle.tao_contents.specs.FinalArray.{IsFinalLook, SeenIsFinal, FinalArray}
 use Rattle.tao_contents.proofs.Looks.{not_stash, first_one}
 use Rattle.tao_contents.proofs.MovedCopies.{fresh_alike}

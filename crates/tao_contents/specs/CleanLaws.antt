@@ -4,7 +4,7 @@ use Rattle.tao_base.specs.declared.storage.Entry.{Entry}
 use Rattle.tao_base.specs.Limits.{Shape}
 use Rattle.tao_base.specs.Tree.{is_on_path}
 use Rattle.tao_model.specs.FreshCopy.{current_contents}
-use Rattle.tao_contents.specs.Steps.{with_path, after_real_fetch, after_fake_fetch}
+use Rattle.tao_held.specs.Steps.{with_path, after_real_fetch, after_fake_fetch}
 
 -- A node that the proxy holds is clean: it has the entries that were last written there. Recent nodes, touched since the last write-back, need not be.
 abbrev pub CleanResidents : (ℕ → Bool) → (ℕ → Bool) → (ℕ → List Entry) → (ℕ → List Entry) → Type 0

@@ -4,7 +4,7 @@ use Rattle.tao_base.specs.declared.storage.Entry.{Entry}
 use Rattle.tao_base.specs.Limits.{Shape}
 use Rattle.tao_base.specs.Tree.{is_on_path}
 use Rattle.tao_model.specs.FreshCopy.{FreshCopy, current_contents}
-use Rattle.tao_contents.specs.Steps.{take_in, with_path, found_copy, after_real_fetch, after_fake_fetch}
+use Rattle.tao_held.specs.Steps.{take_in, with_path, found_copy, after_real_fetch, after_fake_fetch}
 use Rattle.tao_contents.specs.Moves.{ChangesOne}
 
 -- an honest answer: what is taken in of each node that the proxy doesn't hold is what was last written there

@@ -7,7 +7,7 @@ use Rattle.tao_base.specs.Array.{block_at}
 use Rattle.tao_base.specs.Tree.{is_on_path}
 use Rattle.tao_model.specs.Placement.{look, first_copy}
 use Rattle.tao_model.specs.FreshCopy.{FreshCopy, current_contents}
-use Rattle.tao_contents.specs.Steps.{value_or_zeros}
+use Rattle.tao_held.specs.Steps.{value_or_zeros}
 
 -- A final look: nothing is under way, so the settled values are the array's, and what is read of each node that the proxy doesn't hold is what
 -- was last written there.

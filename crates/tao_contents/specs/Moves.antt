@@ -5,7 +5,7 @@ use Rattle.tao_base.specs.Limits.{Shape}
 use Rattle.tao_base.specs.Tree.{path, is_on_path}
 use Rattle.tao_model.specs.Placement.{Rises, look, IsEvicted}
 use Rattle.tao_model.specs.FreshCopy.{OneCopy, FreshCopy}
-use Rattle.tao_contents.specs.Steps.{found_copy, put}
+use Rattle.tao_held.specs.Steps.{found_copy, put}
 
 -- fresh copy is a matter of positions, values and what look-ups find alone
 abbrev pub FreshAlike : Type 0

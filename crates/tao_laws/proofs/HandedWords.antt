@@ -32,7 +32,7 @@ quiet_before es client op word block quiet i there on real =
     quiet i (omega arith) (on_stays es (Arrive client op word) i block there ∙ on) (real_stays es (Arrive client op word) i there ∙ real)
 
 -- where an arrival on the block is real, the block was quiet
-was_quiet : (es : List Event) (op : Op) (block : ℕ) → real_now es op ≡ true → names block op ≡ true → IsQuiet es block
+pub was_quiet : (es : List Event) (op : Op) (block : ℕ) → real_now es op ≡ true → names block op ≡ true → IsQuiet es block
 was_quiet es op block real named = (free_means (is_on es) (is_real es) (is_done es) (arrived es) block op named).0 real
 
 -- the newest arrival is open on a block where it is real and names it

@@ -36,7 +36,7 @@ one_real events block i j h k = one_open (reverse events) block i j h k
 
 -- ---- an arrival is a pad or on a block
 
-on_no_pad : (block : ℕ) (op : Op) → names block op ≡ true → is_pad_op op ≡ false
+pub on_no_pad : (block : ℕ) (op : Op) → names block op ≡ true → is_pad_op op ≡ false
 on_no_pad block (Read id) h = refl
 on_no_pad block (Write id value) h = refl
 on_no_pad block Pad h = absurd (true≢false (sym h))
@@ -90,13 +90,13 @@ pad_or_on (Fault cause ∷ es) i there = pad_or_on es i there
 -- ---- what settles an arrival
 
 -- the settler, in words: a real arrival on the block up to this one, and none between
-settles : (es : List Event) (j block : ℕ) → j < arrived es → is_on es j block ≡ true → IsLast (is_real_on es block) (j + 1) (Some (settler es j))
+pub settles : (es : List Event) (j block : ℕ) → j < arrived es → is_on es j block ≡ true → IsLast (is_real_on es block) (j + 1) (Some (settler es j))
 settles es j block there on =
     subst (λ l. IsLast (is_real_on l block) (j + 1) (Some (settler l j))) (reverse-reverse es)
     (settler_is_last (reverse es) j block (subst (λ l. j < arrived l) (sym (reverse-reverse es)) there) (subst (λ l. is_on l j block ≡ true) (sym (reverse-reverse es)) on))
 
 -- a settler is real, and on the block
-settler_real_on : (es : List Event) (j block : ℕ) → j < arrived es → is_on es j block ≡ true → (is_real es (settler es j) ≡ true) × (is_on es (settler es j) block ≡ true)
+pub settler_real_on : (es : List Event) (j block : ℕ) → j < arrived es → is_on es j block ≡ true → (is_real es (settler es j) ≡ true) × (is_on es (settler es j) block ≡ true)
 settler_real_on es j block there on = and_parts (is_real es (settler es j)) (is_on es (settler es j) block) (settles es j block there on).1
 
 waits_for : (es : List Event) (block i j : ℕ) → IsOpen es block i → j < arrived es → is_on es j block ≡ true → i ≤ j → settler es j ≡ i

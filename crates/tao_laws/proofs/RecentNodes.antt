@@ -66,7 +66,7 @@ recent_is_resident o events node f h = recent_from o (reverse events) node f h
 pub leaf_low : (o : Opening) (es : List Event) (i : ℕ) → fetched_leaf o es i < 2 ^ o.shape.l
 leaf_low o es i = mod-lt (word_at o es (word_used o es i)) (pow_pos o.shape.l)
 
-fetched_in_tree : (o : Opening) (es : List Event) (i node : ℕ) → fetches o es i node ≡ true → (0 < node) × (node < node_count o.shape.l + 1)
+pub fetched_in_tree : (o : Opening) (es : List Event) (i node : ℕ) → fetches o es i node ≡ true → (0 < node) × (node < node_count o.shape.l + 1)
 fetched_in_tree o es i node h = has_below (node_count o.shape.l + 1) node (reverse (path o.shape.l (fetched_leaf o es i))) (path_falls o.shape.l (fetched_leaf o es i) (leaf_low o es i))
     (has_reverse node (path o.shape.l (fetched_leaf o es i)) ∙ sym (on_path_has o.shape.l (fetched_leaf o es i) node) ∙ h)
 
@@ -85,7 +85,7 @@ touched_in_tree o (Fault cause ∷ es) node h = touched_in_tree o es node h
 
 -- ---- a write-back has the recent nodes
 
-bucket_in : (node : ℕ) (buckets : List Bucket) → is_some (bucket_of node buckets) ≡ has node (nodes_in buckets)
+pub bucket_in : (node : ℕ) (buckets : List Bucket) → is_some (bucket_of node buckets) ≡ has node (nodes_in buckets)
 bucket_in node [] = refl
 bucket_in node (b ∷ buckets) = either (nat_eq b.node node) (bucket_in node buckets)
   where

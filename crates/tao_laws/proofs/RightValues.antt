@@ -14,7 +14,7 @@ use Rattle.tao_model.specs.Replies.{array_now, plain_reply}
 use Rattle.tao_model.proofs.Stays.{on_stays, reply_stays}
 use Rattle.tao_model.proofs.RealArrivals.{on_newest}
 use Rattle.tao_laws.specs.SettledValues.{array_where}
-use Rattle.tao_laws.specs.OpenRequests.{RightValue}
+use Rattle.tao_laws.specs.OpenRequests.{IsRightValue, RightValue}
 use Rattle.tao_laws.proofs.OpenArrivals.{queue_from, quiet_settled}
 
 -- ---- one step of the array, at one block
@@ -40,7 +40,7 @@ step_alike xs ys block (Read id) len h = h
 step_alike xs ys block (Write id value) len h = put_alike xs ys id block value len h
 step_alike xs ys block Pad len h = h
 
-step_other : (xs : List (List ℕ)) (block : ℕ) (op : Op) → names block op ≡ false → block_at (array_step xs op) block ≡ block_at xs block
+pub step_other : (xs : List (List ℕ)) (block : ℕ) (op : Op) → names block op ≡ false → block_at (array_step xs op) block ≡ block_at xs block
 step_other xs block (Read id) h = refl
 step_other xs block (Write id value) h = get_or-set_other xs id block value [] (λ same. true≢false (sym (eq-eqb id block (sym same)) ∙ h))
 step_other xs block Pad h = refl
@@ -50,7 +50,7 @@ either_other : (t : Bool) (xs : List (List ℕ)) (block : ℕ) (op : Op) → nam
 either_other true xs block op h = step_other xs block op h
 either_other false xs block op h = refl
 
-reply_at : (xs : List (List ℕ)) (block : ℕ) (op : Op) → names block op ≡ true → array_reply xs op ≡ block_at xs block
+pub reply_at : (xs : List (List ℕ)) (block : ℕ) (op : Op) → names block op ≡ true → array_reply xs op ≡ block_at xs block
 reply_at xs block (Read id) h = ap (block_at xs) (eqb-true id block h)
 reply_at xs block (Write id value) h = ap (block_at xs) (eqb-true id block h)
 reply_at xs block Pad h = absurd (true≢false (sym h))
@@ -69,7 +69,7 @@ length_where passes o (Issue version nonce buckets ∷ es) = length_where passes
 length_where passes o (Acked version ∷ es) = length_where passes o es
 length_where passes o (Fault cause ∷ es) = length_where passes o es
 
-length_now : (o : Opening) (es : List Event) → length (array_now o es) ≡ length o.first
+pub length_now : (o : Opening) (es : List Event) → length (array_now o es) ≡ length o.first
 length_now o [] = refl
 length_now o (Arrive client op word ∷ es) = length_step (array_now o es) op ∙ length_now o es
 length_now o (Done arrival taken ∷ es) = length_now o es
@@ -130,8 +130,11 @@ earlier_pass passes o (Issue version nonce buckets ∷ es) block i there on h = 
 earlier_pass passes o (Acked version ∷ es) block i there on h = earlier_pass passes o es block i there on h
 earlier_pass passes o (Fault cause ∷ es) block i there on h = earlier_pass passes o es block i there on h
 
-pub right_value : RightValue
-right_value o events block = record {
-  open_one = λ i h. earlier_pass (is_settled (reverse events)) o (reverse events) block i h.arrived h.on (queue_from (reverse events) block i h).settled;
-  quiet = λ quiet. all_pass (is_settled (reverse events)) o (reverse events) block (λ j there on. quiet_settled (reverse events) block j quiet there on);
+pub right_from : (o : Opening) (es : List Event) (block : ℕ) → IsRightValue o es block
+right_from o es block = record {
+  open_one = λ i h. earlier_pass (is_settled es) o es block i h.arrived h.on (queue_from es block i h).settled;
+  quiet = λ quiet. all_pass (is_settled es) o es block (λ j there on. quiet_settled es block j quiet there on);
 }
+
+pub right_value : RightValue
+right_value o events block = right_from o (reverse events) block

@@ -199,7 +199,7 @@ away_unwritten o es version nonce buckets node f m away = either (bucket_of node
         let recent : nat_lt (issues es * o.shape.k) (last_touch o es node) ≡ true = sym (written_where_recent o es version nonce buckets node m) ∙ ap is_some is in
         absurd (true≢false (sym (recent_from o es node f (ltb-true (issues es * o.shape.k) (last_touch o es node) recent)) ∙ away))
 
-writes_residents : (o : Opening) (es : List Event) (version nonce : ℕ) (buckets : List Bucket) (node : ℕ) → FollowsLawfully o es → MayBeIssued o es version nonce buckets
+pub writes_residents : (o : Opening) (es : List Event) (version nonce : ℕ) (buckets : List Bucket) (node : ℕ) → FollowsLawfully o es → MayBeIssued o es version nonce buckets
     → WritesResidents o es (Issue version nonce buckets ∷ es) buckets node
 writes_residents o es version nonce buckets node f m = record {
   recent = (

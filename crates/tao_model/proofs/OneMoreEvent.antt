@@ -34,7 +34,7 @@ word_for_block next new block (Read id) h = ap next (eqb-true id block h)
 word_for_block next new block (Write id value) h = ap next (eqb-true id block h)
 word_for_block next new block Pad h = absurd (true≢false (sym h))
 
-names_below : (o : Opening) (block : ℕ) (op : Op) → names block op ≡ true → IsInRange o.shape op → block < o.shape.n
+pub names_below : (o : Opening) (block : ℕ) (op : Op) → names block op ≡ true → IsInRange o.shape op → block < o.shape.n
 names_below o block (Read id) h r = let same : id ≡ block = eqb-true id block h in omega arith
 names_below o block (Write id value) h r = let same : id ≡ block = eqb-true id block h in let low : id < o.shape.n = r.0 in omega arith
 names_below o block Pad h r = absurd (true≢false (sym h))

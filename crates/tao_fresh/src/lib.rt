@@ -1,0 +1,15 @@
+//! Laws of a record whose write-backs are true: clean nodes, fresh copies, right answers, fresh writes.
+//! There is no code but the laws: functions with empty bodies whose contract is the law.
+#![tactic(auto)]
+
+mod answers;
+mod copies;
+mod final_look;
+mod values;
+mod writes;
+
+pub use answers::{answers_are_right, found_is_plain};
+pub use copies::{copies_are_fresh, residents_are_clean};
+pub use final_look::{array_is_seen, dones_are_counted};
+pub use values::{plain_between, settled_moves, settled_stays};
+pub use writes::writes_are_fresh;

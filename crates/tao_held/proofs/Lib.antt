@@ -1,0 +1,7 @@
+pub mod AlikeContents
+pub mod Blocks
+pub mod Counts
+pub mod HeldAnswers
+pub mod HeldSteps
+pub mod UnalteredSenses
+pub mod WorkedHolds

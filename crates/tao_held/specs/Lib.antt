@@ -1,0 +1,5 @@
+pub mod Counted
+pub mod Held
+pub mod HeldLaws
+pub mod Steps
+pub mod WorkedHeld

@@ -1,0 +1,15 @@
+//! What the proxy holds after each event, as a function of the record.
+//! There is no code but the laws: functions with empty bodies whose contract is the law.
+#![tactic(auto)]
+
+mod alike;
+mod answering;
+mod holding;
+mod worked;
+
+pub use alike::{evicted_alike, fetched_alike, put_is_gathered};
+pub use answering::{answers_stay, between_is_fold, found_stays, since_is_fold};
+pub use holding::{away_is_empty, held_stays};
+pub use worked::{
+    copies_that_count, one_read_holds, two_fetches_hold, worked_are_of_proxy, writes_are_answered,
+};

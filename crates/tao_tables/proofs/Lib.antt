@@ -1,0 +1,3 @@
+pub mod MovedTables
+pub mod ServedAnswers
+pub mod WrittenTables

@@ -1,0 +1,7 @@
+//! Laws: the answers that a proxy keeps.
+ghost use Rattle.tao_tables.specs.Answers.{ServedReal};
+
+/// Settling a real arrival with what was found gives its block's arrivals the answers that the record gives them.
+pub fn served_real()
+    ensures { ServedReal }
+{}

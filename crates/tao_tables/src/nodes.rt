@@ -1,0 +1,22 @@
+//! Laws: the tables of nodes.
+ghost use Rattle.tao_tables.specs.Tables.{TellsArrive, TellsDone, TellsIssue, TellsAcked};
+
+/// An arrival covers its path.
+pub fn tells_arrive()
+    ensures { TellsArrive }
+{}
+
+/// A Done brings its path, with what the fetch makes of its contents.
+pub fn tells_done()
+    ensures { TellsDone }
+{}
+
+/// A write-back gives its nodes its version.
+pub fn tells_issue()
+    ensures { TellsIssue }
+{}
+
+/// An acknowledgement lets nodes go.
+pub fn tells_acked()
+    ensures { TellsAcked }
+{}
