@@ -34,3 +34,8 @@ pub record IsStocked (z b : ℕ) (entries : List Entry) (spare : List (List ℕ)
   pub entry_values : All (HasBlock b) entries
   pub spare_values : All (IsBlock b) spare
   pub in_clear : slots ≡ z * (4 + b)
+
+-- entries of stock: z of them, each with a block of b bytes
+pub record IsStock (z b : ℕ) (entries : List Entry) : Type 0 where
+  pub count : length entries ≡ z
+  pub values : All (HasBlock b) entries

@@ -17,3 +17,4 @@ pub use encoding::encode_into;
 pub use header::{node_of, nonce_of, version_of};
 pub use laws::{no_fault_where_encoded, one_bucket, one_encoding};
 pub use room::Room;
+pub use stock::stocked;

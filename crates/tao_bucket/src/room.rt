@@ -1,5 +1,5 @@
 //! A room for one bucket. All memory is taken when the room is made.
-ghost use Rattle.std.specs.Prelude.{◌≡◌, ◌+◌, ◌*◌, ◌<◌, ◌≤◌, [], ◌++◌, length, map, vec_len, vec_capacity, All, IfOk, OnOk, OnErr};
+ghost use Rattle.std.specs.Prelude.{◌≡◌, ◌+◌, ◌*◌, ◌<◌, ◌≤◌, [], ◌++◌, length, map, vec_len, vec_capacity, All, IfOk, OnOk, OnErr, Some, true, is_some};
 ghost use Rattle.std.specs.Option.{option_copied};
 ghost use Rattle.std.specs.Result.{result_err};
 ghost use Rattle.tao_base.specs.Limits.{slots_len};
@@ -11,6 +11,7 @@ use crate::stock::{fill, release, zero_blocks};
 use crate::tail::body_len;
 use std::alloc::Global;
 use std::marker::Model;
+use std::mem;
 use tao_base::{Block, Bucket, BucketFault, Entries, NoMemory, Params};
 use tao_tape::xor_stream;
 
@@ -41,7 +42,7 @@ impl Model for Room {
 }
 
 impl Room {
-    ghost use Rattle.tao_bucket.specs.Rooms.{empty_room, holding, emptied};
+    ghost use Rattle.tao_bucket.specs.Rooms.{empty_room, holding, emptied, IsStock};
 
     /// An empty room for a bucket of a store with these parameters.
     pub fn new(alloc: Global, p: &Params) -> Result<Room, NoMemory>
@@ -75,6 +76,18 @@ impl Room {
         } else {
             None
         }
+    }
+
+    /// Gives the bucket that the room holds for one of stock, whose blocks it keeps. It takes no memory.
+    pub fn exchange(&mut self, stock: &mut Bucket)
+        requires full { is_some self.old.held ≡ true }
+        requires stock { IsStock self.old.z self.old.b stock.old.entries }
+        ensures bucket { self.old.held ≡ Some stock.new }
+        ensures room { self.new ≡ emptied self.old }
+    {
+        mem::swap(&mut self.bucket, stock);
+        self.spare.truncate(0);
+        self.is_full = false;
     }
 
     pub(crate) fn empty(&mut self)

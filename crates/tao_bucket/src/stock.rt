@@ -3,11 +3,12 @@ ghost use Rattle.std.specs.Prelude.{◌≡◌, ◌+◌, ◌*◌, ◌<◌, ◌≤
 ghost use Rattle.std.specs.Option.{option_to_list};
 ghost use Rattle.tao_bucket.specs.Encoding.{value_of, IsBlock, HasBlock};
 ghost use Rattle.tao_bucket.specs.Reading.{entry_of, entries_of};
+ghost use Rattle.tao_bucket.specs.Rooms.{IsStock};
 
 use crate::slots::{id_field, slot_at};
 use std::alloc::Global;
 use std::mem;
-use tao_base::{Block, Entries, Entry, NoMemory, Params};
+use tao_base::{Block, Bucket, Entries, Entry, NoMemory, Params};
 
 /// `count` blocks of `len` bytes.
 pub(crate) fn zero_blocks(alloc: Global, count: usize, len: usize) -> Result<Vec<Block>, NoMemory>
@@ -20,6 +21,25 @@ pub(crate) fn zero_blocks(alloc: Global, count: usize, len: usize) -> Result<Vec
         blocks.push_reserved(Block::from_vec(vec![in alloc; 0; len]?));
     }
     Ok(blocks)
+}
+
+/// A bucket with as many blocks as one of the store may have, which `Room::exchange` takes.
+pub fn stocked(alloc: Global, p: &Params) -> Result<Bucket, NoMemory>
+    ensures { IfOk result (λ bucket. IsStock p.now.z p.now.b bucket.entries) }
+{
+    let mut entries = Entries::new(alloc)?;
+    let z = p.z();
+    let b = p.b() as usize;
+    for _ in 0..z {
+        let value = Block::from_vec(vec![in alloc; 0; b]?);
+        push_within(&mut entries, Entry { id: 0, value });
+    }
+    Ok(Bucket {
+        node: 0,
+        version: 0,
+        nonce: 0,
+        entries,
+    })
 }
 
 /// Takes the blocks of all entries back, and the entries out.

@@ -10,7 +10,9 @@ use Rattle.tao_base.specs.declared.storage.Entry.{Entry}
 use Rattle.tao_base.specs.Limits.{Shape}
 use Rattle.tao_base.specs.Tree.{node_at, node_count, path}
 use Rattle.tao_base.proofs.TreeLemmas.{one_le_node}
-use Rattle.tao_model.specs.Placement.{Rises, look, IsPlaced, IsEvicted, may_evict, first_copy}
+use Rattle.std.proofs.Math.Path.{fun_ext}
+use Rattle.tao_flush.specs.Laws.{LaidOutIs}
+use Rattle.tao_model.specs.Placement.{with_stash, Rises, look, IsPlaced, IsEvicted, may_evict, first_copy}
 use Rattle.tao_model.specs.Passes.{gather, gathered_from, one_pass}
 use Rattle.tao_model.specs.Evictions.{evicted}
 use Rattle.tao_model.proofs.OnePlacement.{placed_alike}
@@ -33,7 +35,7 @@ fold_lists : (held : ℕ → List Entry) (nodes : List ℕ) (entries : List Entr
 fold_lists held [] entries = refl
 fold_lists held (w ∷ nodes) entries = fold_lists held nodes (gather entries (held w))
 
-with_lists_at : (nodes : List ℕ) (lists : List (List Entry)) (elsewhere : ℕ → List Entry) (k v : ℕ) (x : List Entry)
+pub with_lists_at : (nodes : List ℕ) (lists : List (List Entry)) (elsewhere : ℕ → List Entry) (k v : ℕ) (x : List Entry)
     → ((i j : ℕ) → i < j → j < length nodes → get_or nodes i v ≡ get_or nodes j v → ⊥) → k < length nodes → k < length lists
     → with_lists nodes lists elsewhere (get_or nodes k v) ≡ get_or lists k x
 with_lists_at [] lists elsewhere k v x distinct h g = absurd (omega arith)
@@ -43,20 +45,20 @@ with_lists_at (w ∷ nodes) (entries ∷ lists) elsewhere (suc k) v x distinct h
     rw (ne_eqb w (get_or nodes k v) (distinct 0 (suc k) (omega arith) h))
     (with_lists_at nodes lists elsewhere k v x (λ i j less within. distinct (suc i) (suc j) (omega arith) (omega arith)) (omega arith) (omega arith))
 
-with_lists_off : (nodes : List ℕ) (lists : List (List Entry)) (elsewhere : ℕ → List Entry) (w : ℕ) → has w nodes ≡ false → with_lists nodes lists elsewhere w ≡ elsewhere w
+pub with_lists_off : (nodes : List ℕ) (lists : List (List Entry)) (elsewhere : ℕ → List Entry) (w : ℕ) → has w nodes ≡ false → with_lists nodes lists elsewhere w ≡ elsewhere w
 with_lists_off [] lists elsewhere w off = refl
 with_lists_off (v ∷ nodes) [] elsewhere w off = refl
 with_lists_off (v ∷ nodes) (entries ∷ lists) elsewhere w off =
     let parts = or_parts (nat_eq v w) (has w nodes) off in rw parts.0 (with_lists_off nodes lists elsewhere w parts.1)
 
-path_at : (l at d v : ℕ) → d ≤ l → get_or (path l at) d v ≡ node_at l at d
+pub path_at : (l at d v : ℕ) → d ≤ l → get_or (path l at) d v ≡ node_at l at d
 path_at l at d v within = get_or-map-range_with_len (node_at l at) 0 (l + 1) d d v (omega arith) (omega arith)
 
-path_len : (l at : ℕ) → length (path l at) ≡ l + 1
+pub path_len : (l at : ℕ) → length (path l at) ≡ l + 1
 path_len l at = length-map-range_with_len (node_at l at) 0 (l + 1)
 
 -- at a node of the path lies that node's list
-laid_at : (s : Shape) (at : ℕ) (stash : List Entry) (lists : List (List Entry)) (elsewhere : ℕ → List Entry) (d : ℕ) (x : List Entry) → at < 2 ^ s.l
+pub laid_at : (s : Shape) (at : ℕ) (stash : List Entry) (lists : List (List Entry)) (elsewhere : ℕ → List Entry) (d : ℕ) (x : List Entry) → at < 2 ^ s.l
     → length lists ≡ s.l + 1 → d ≤ s.l → laid_out s at stash lists elsewhere (node_at s.l at d) ≡ get_or lists d x
 laid_at s at stash lists elsewhere d x small len within =
     let low = one_le_node s.l at d in
@@ -72,7 +74,7 @@ laid_at s at stash lists elsewhere d x small len within =
         omega arith
 
 -- the lists of the path are what lies there
-lists_laid : (s : Shape) (at : ℕ) (stash : List Entry) (lists : List (List Entry)) (elsewhere : ℕ → List Entry) → at < 2 ^ s.l → length lists ≡ s.l + 1
+pub lists_laid : (s : Shape) (at : ℕ) (stash : List Entry) (lists : List (List Entry)) (elsewhere : ℕ → List Entry) → at < 2 ^ s.l → length lists ≡ s.l + 1
     → map (laid_out s at stash lists elsewhere) (path s.l at) ≡ lists
 lists_laid s at stash lists elsewhere small len =
     map-map (laid_out s at stash lists elsewhere) (node_at s.l at) (range_with_len 0 (s.l + 1))
@@ -80,6 +82,21 @@ lists_laid s at stash lists elsewhere small len =
     (λ k x below.
     let all = lists_len s.l at (laid_out s at stash lists elsewhere) in
     list_at s.l at k (laid_out s at stash lists elsewhere) x (omega arith) ∙ laid_at s at stash lists elsewhere k x small len (omega arith))
+
+-- lists that were read there, laid out again
+pub laid_out_is : LaidOutIs
+laid_out_is s at stash contents small = fun_ext (λ w. either w (cases_Bool (nat_eq w 0)) (cases_Bool (has w (path s.l at))))
+  where
+    node : (w : ℕ) → (d : ℕ) × (d ≤ s.l) × (node_at s.l at d ≡ w) → laid_out s at stash (lists_on s.l at contents) contents w ≡ contents w
+    node w (d, within, here) = ap (laid_out s at stash (lists_on s.l at contents) contents) (sym here)
+        ∙ laid_at s at stash (lists_on s.l at contents) contents d [] small (lists_len s.l at contents) within
+        ∙ list_at s.l at d contents [] within ∙ ap contents here
+
+    either : (w : ℕ) → (nat_eq w 0 ≡ true) ⊎ (nat_eq w 0 ≡ false) → (has w (path s.l at) ≡ true) ⊎ (has w (path s.l at) ≡ false)
+        → laid_out s at stash (lists_on s.l at contents) contents w ≡ with_stash stash contents w
+    either w (inl zero_is) on = rw zero_is refl
+    either w (inr above) (inl on) = node w (depth_of s.l at w on) ∙ sym (rw above refl)
+    either w (inr above) (inr off) = rw above (with_lists_off (path s.l at) (lists_on s.l at contents) contents w off)
 
 module _ (s : Shape) (at : ℕ) (leaf : ℕ → ℕ) (small : at < 2 ^ s.l) (stash : List Entry) (is_stash : IsStash s stash)
     (lists : List (List Entry)) (len : length lists ≡ s.l + 1) (elsewhere : ℕ → List Entry) (all : List Entry) (gathered : all ≡ fold gather stash lists) where

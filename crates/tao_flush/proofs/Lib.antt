@@ -1,9 +1,9 @@
-mod Evicted
+pub mod Evicted
 mod GatheredCopies
 mod Loaded
 mod LoopLists
-mod PathNodes
-mod PlacedLists
+pub mod PathNodes
+pub mod PlacedLists
 mod RankedCopies
 mod RisingLists
 mod SharedPaths

@@ -1,5 +1,6 @@
 pub mod Blocks
 pub mod Gathering
+pub mod Laws
 pub mod Loads
 pub mod Paths
 pub mod Placing

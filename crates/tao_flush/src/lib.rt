@@ -3,6 +3,7 @@
 
 mod eviction;
 mod gathering;
+mod laws;
 mod loading;
 mod placing;
 mod positions;
@@ -13,6 +14,7 @@ mod stash;
 mod tests;
 
 pub use eviction::flush;
+pub use laws::lists_laid_out;
 pub use loading::load;
 pub use positions::Positions;
 pub use stash::Stash;

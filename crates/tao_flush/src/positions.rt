@@ -45,6 +45,7 @@ impl Positions {
         requires { block < self.now.shape.n }
         ensures value { result ≡ leaf_in self.now block }
         ensures leaf { result < 2 ^ self.now.shape.l }
+        ensures count { length self.now.words ≡ self.now.shape.n }
     {
         self.leaf_at_height(self.p.l(), block)
     }

@@ -1,0 +1,9 @@
+mod TakenIn
+mod Swapped
+mod Arrived
+mod EvictedPath
+mod FoundCopy
+mod Exchanged
+mod PutValue
+mod Fetching
+mod Versioned

@@ -1,0 +1,17 @@
+//! What the proxy holds: the resident nodes, the stash and the positions, and what a fetch makes of them.
+#![tactic(auto)]
+
+mod evicting;
+mod holdings;
+mod laws;
+mod looks;
+mod swaps;
+mod takings;
+#[cfg(test)]
+mod tests;
+mod trial;
+mod versions;
+
+pub use holdings::Holdings;
+pub use laws::exchanged_back;
+pub use trial::real_fetch;
