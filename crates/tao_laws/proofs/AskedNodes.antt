@@ -119,7 +119,7 @@ as_it_was_asked o before after client op word node =
 -- ---- the one right version
 
 -- a newest version that isn't the load's was issued
-newest_issued : (es : List Event) (node : ℕ) → (newest_version es node ≡ 0) ⊎ (is_issued es (newest_version es node) node ≡ true)
+pub newest_issued : (es : List Event) (node : ℕ) → (newest_version es node ≡ 0) ⊎ (is_issued es (newest_version es node) node ≡ true)
 newest_issued [] node = inl refl
 newest_issued (Arrive client op word ∷ es) node = newest_issued es node
 newest_issued (Done arrival taken ∷ es) node = newest_issued es node

@@ -12,7 +12,7 @@ use Rattle.tao_model.specs.Lawful.{FollowsLawfully, IsInRange}
 use Rattle.tao_model.proofs.Stays.{used_stays}
 use Rattle.tao_model.proofs.OneMoreEvent.{word_for_fake, word_for_block}
 use Rattle.tao_model.proofs.Places.{word_for_below}
-use Rattle.tao_laws.specs.TapeWords.{AreDistinct, DistinctWords, WordsAreKnown}
+use Rattle.tao_laws.specs.TapeWords.{AreInRange, LawfulIsInRange, AreDistinct, DistinctWords, WordsAreKnown}
 
 -- ---- the two steps, over plain functions
 
@@ -153,20 +153,31 @@ none_used blocks used = record {
   next_below = λ b block. omega arith;
 }
 
-pub distinct_from : (o : Opening) (es : List Event) → FollowsLawfully o es → AreDistinct o.shape.n (arrived es) (word_used o es) (next_word o es)
+pub distinct_from : (o : Opening) (es : List Event) → AreInRange o es → AreDistinct o.shape.n (arrived es) (word_used o es) (next_word o es)
 distinct_from o [] f = none_used o.shape.n (word_used o [])
-distinct_from o (Arrive client op word ∷ es) f = distinct_arrive o es client op word (real_now es op) refl f.2.3 (distinct_from o es f.0)
-distinct_from o (Done arrival taken ∷ es) f = distinct_from o es f.0
-distinct_from o (Issue version nonce buckets ∷ es) f = distinct_from o es f.0
-distinct_from o (Acked version ∷ es) f = distinct_from o es f.0
-distinct_from o (Fault cause ∷ es) f = distinct_from o es f.0
+distinct_from o (Arrive client op word ∷ es) f = distinct_arrive o es client op word (real_now es op) refl f.1 (distinct_from o es f.0)
+distinct_from o (Done arrival taken ∷ es) f = distinct_from o es f
+distinct_from o (Issue version nonce buckets ∷ es) f = distinct_from o es f
+distinct_from o (Acked version ∷ es) f = distinct_from o es f
+distinct_from o (Fault cause ∷ es) f = distinct_from o es f
+
+pub in_range : (o : Opening) (es : List Event) → FollowsLawfully o es → AreInRange o es
+in_range o [] f = tt
+in_range o (Arrive client op word ∷ es) f = (in_range o es f.0, f.2.3)
+in_range o (Done arrival taken ∷ es) f = in_range o es f.0
+in_range o (Issue version nonce buckets ∷ es) f = in_range o es f.0
+in_range o (Acked version ∷ es) f = in_range o es f.0
+in_range o (Fault cause ∷ es) f = in_range o es f.0
+
+pub lawful_is_in_range : LawfulIsInRange
+lawful_is_in_range o events f = in_range o (reverse events) f
 
 pub distinct_words : DistinctWords
 distinct_words o events f = distinct_from o (reverse events) f
 
 -- ---- words that are there
 
-known_from : (o : Opening) (es : List Event) (i : ℕ) → FollowsLawfully o es → i < arrived es → word_used o es i ≤ o.shape.n + i
+pub known_from : (o : Opening) (es : List Event) (i : ℕ) → AreInRange o es → i < arrived es → word_used o es i ≤ o.shape.n + i
 known_from o [] i f h = absurd (omega arith)
 known_from o (Arrive client op word ∷ es) i f h = either (cases_lt i (arrived es)) (λ older. known_from o es i f.0 older)
   where
@@ -174,12 +185,12 @@ known_from o (Arrive client op word ∷ es) i f h = either (cases_lt i (arrived 
     either (inl older) ih = let before = ih older in let same = used_stays o es (Arrive client op word) i older in omega arith
     either (inr newest) ih =
         let at : i ≡ arrived es = omega arith in
-        let below = word_for_below o es op (real_now es op) f.2.3 in
+        let below = word_for_below o es op (real_now es op) f.1 in
         rw (eq-eqb i (arrived es) at) (omega arith)
-known_from o (Done arrival taken ∷ es) i f h = known_from o es i f.0 h
-known_from o (Issue version nonce buckets ∷ es) i f h = known_from o es i f.0 h
-known_from o (Acked version ∷ es) i f h = known_from o es i f.0 h
-known_from o (Fault cause ∷ es) i f h = known_from o es i f.0 h
+known_from o (Done arrival taken ∷ es) i f h = known_from o es i f h
+known_from o (Issue version nonce buckets ∷ es) i f h = known_from o es i f h
+known_from o (Acked version ∷ es) i f h = known_from o es i f h
+known_from o (Fault cause ∷ es) i f h = known_from o es i f h
 
 pub words_are_known : WordsAreKnown
 words_are_known o events i f h = known_from o (reverse events) i f h

@@ -17,8 +17,8 @@ use Rattle.tao_model.specs.Trace.{requests, again_of}
 use Rattle.tao_model.specs.Shapes.{Step, step_of, steps_of, IsOneShape, HasMovedWords}
 use Rattle.tao_model.proofs.Places.{arrived_grows, leaf_stays_later}
 use Rattle.tao_model.proofs.LawfulToWhole.{earlier_follows}
-use Rattle.tao_laws.specs.TwoPlays.{EqualTraces}
-use Rattle.tao_laws.proofs.DistinctPlaces.{distinct_from}
+use Rattle.tao_laws.specs.TwoPlays.{EqualTraces, LeavesTellTraces}
+use Rattle.tao_laws.proofs.DistinctPlaces.{distinct_from, in_range}
 use Rattle.tao_laws.proofs.KindsAlone.{picked_back, same_steps}
 use Rattle.tao_laws.proofs.ToldTraces.{told, told_again, told_is, again_is, Fetches}
 use Rattle.tao_laws.proofs.Permutations.{same_arrived, permutation_is_one_to_one}
@@ -83,8 +83,8 @@ equal_leaves : (first second : History) → FollowsLawfully first.opening (rever
     → HasMovedWords first.opening (reverse first.events) second.opening (reverse second.events) → (i : ℕ) → i < arrived (reverse first.events)
     → fetched_leaf first.opening (reverse first.events) i ≡ fetched_leaf second.opening (reverse second.events) i
 equal_leaves first second f g one words i there =
-    let twin = permutation_is_one_to_one first second f g one in
-    let low = (distinct_from first.opening (reverse first.events) f).used_below i there in
+    let twin = permutation_is_one_to_one first second (in_range first.opening (reverse first.events) f) (in_range second.opening (reverse second.events) g) one in
+    let low = (distinct_from first.opening (reverse first.events) (in_range first.opening (reverse first.events) f)).used_below i there in
     ap (leaf_of first.opening.shape.l) (sym (words (word_used first.opening (reverse first.events) i) low))
     ∙ ap (λ place. leaf_of first.opening.shape.l (word_at second.opening (reverse second.events) place)) (twin.used i there)
     ∙ ap (λ s. leaf_of s.l (word_at second.opening (reverse second.events) (word_used second.opening (reverse second.events) i))) one.parameters
@@ -95,8 +95,8 @@ again_same : (f g : ℕ → List Request) → ((v : ℕ) → f v ≡ g v) → (v
 again_same f g same [] = refl
 again_same f g same (v ∷ versions) = rw (same v, again_same f g same versions) refl
 
-pub equal_traces : EqualTraces
-equal_traces first second f g one words = record {
+pub leaves_tell_traces : LeavesTellTraces
+leaves_tell_traces first second f g one leaves = record {
   leaves = leaves;
   fronts = fronts;
   whole = λ again scanned. ap (λ r. r ++ (if scanned then Scan ∷ [] else []))
@@ -114,9 +114,6 @@ equal_traces first second f g one words = record {
 
     others : List Event
     others = reverse second.events
-
-    leaves : (i : ℕ) → i < arrived es → fetched_leaf o es i ≡ fetched_leaf other others i
-    leaves = equal_leaves first second f g one words
 
     -- the second play fetches the first one's leaves
     fetches_too : Fetches other others (fetched_leaf o es)
@@ -147,3 +144,6 @@ equal_traces first second f g one words = record {
         ∙ ap (told other.shape (fetched_leaf o es)) (same_steps (take count first.events) (take count second.events) steps_same)
         ∙ sym (told_is other (reverse (take count second.events)) (fetched_leaf o es) front_too.lawful
         (λ i h. front_too.leaves i h ∙ fetches_too i (omega arith)))
+
+pub equal_traces : EqualTraces
+equal_traces first second f g one words = leaves_tell_traces first second f g one (equal_leaves first second f g one words)

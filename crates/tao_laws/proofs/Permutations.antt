@@ -8,10 +8,9 @@ use Rattle.tao_base.specs.declared.session.Event.{Event}
 use Rattle.tao_base.specs.Session.{Opening, History}
 use Rattle.tao_model.specs.Events.{arrived}
 use Rattle.tao_model.specs.Requests.{word_used, next_word}
-use Rattle.tao_model.specs.Lawful.{FollowsLawfully}
 use Rattle.tao_model.specs.Shapes.{IsOneShape, used_places, unused_places, all_places}
 use Rattle.tao_model.proofs.FallingPaths.{has}
-use Rattle.tao_laws.specs.TapeWords.{AreDistinct}
+use Rattle.tao_laws.specs.TapeWords.{AreDistinct, AreInRange}
 use Rattle.tao_laws.specs.TwoPlays.{moved, PermutationIsOneToOne}
 use Rattle.tao_laws.proofs.DistinctPlaces.{distinct_from}
 use Rattle.tao_laws.proofs.KindsAlone.{same_steps}
@@ -20,7 +19,7 @@ use Rattle.tao_laws.proofs.Listings.{has_filter, has_range, has_append, once_app
 
 -- ---- the places of a tape
 
-places_listed : (o : Opening) (es : List Event) → FollowsLawfully o es → IsListing (o.shape.n + arrived es) (all_places o es)
+pub places_listed : (o : Opening) (es : List Event) → AreInRange o es → IsListing (o.shape.n + arrived es) (all_places o es)
 places_listed o es f = record {
   once = once_append (used_places o es) (unused_places o es) (once_image (word_used o es) 0 (arrived es) (λ i j low less high. d.used_once i j less (omega arith)))
       (once_filter (λ place. not (has place (used_places o es))) (range_with_len 0 (o.shape.n + arrived es)) (once_range 0 (o.shape.n + arrived es)))

@@ -6,6 +6,7 @@ use Rattle.tao_model.specs.Requests.{is_real, next_word, word_used, fetched_leaf
 use Rattle.tao_model.specs.Replies.{ops}
 use Rattle.tao_model.specs.Lawful.{FollowsLawfully}
 use Rattle.tao_model.specs.Trace.{requests, request_trace}
+use Rattle.tao_laws.specs.TapeWords.{AreInRange}
 use Rattle.tao_model.specs.Shapes.{IsOneShape, twin_permutation, HasMovedWords}
 
 -- Which arrivals are real, the place that each uses and the next place of each block follow from the shape and the operations alone.
@@ -33,9 +34,9 @@ pub record IsTwin (first second : History) : Type 0 where
   pub one_to_one : IsOneToOne (first.opening.shape.n + arrived (reverse first.events)) (moved first second)
   pub used : (i : ℕ) → i < arrived (reverse first.events) → moved first second (word_used first.opening (reverse first.events) i) ≡ word_used second.opening (reverse second.events) i
 
--- Two records of one shape that follow lawfully have such a twin permutation.
+-- Two records of one shape, with operations in range, have such a twin permutation.
 abbrev pub PermutationIsOneToOne : Type 0
-PermutationIsOneToOne = (first second : History) → FollowsLawfully first.opening (reverse first.events) → FollowsLawfully second.opening (reverse second.events)
+PermutationIsOneToOne = (first second : History) → AreInRange first.opening (reverse first.events) → AreInRange second.opening (reverse second.events)
     → IsOneShape first second → IsTwin first second
 
 -- The server sees the same: the leaf of each fetch, the requests of each front of the records, and the whole traces.
@@ -48,3 +49,12 @@ pub record HasEqualTraces (first second : History) : Type 0 where
 abbrev pub EqualTraces : Type 0
 EqualTraces = (first second : History) → FollowsLawfully first.opening (reverse first.events) → FollowsLawfully second.opening (reverse second.events)
     → IsOneShape first second → HasMovedWords first.opening (reverse first.events) second.opening (reverse second.events) → HasEqualTraces first second
+
+-- Both plays fetch the same leaves.
+abbrev pub SameLeaves : History → History → Type 0
+SameLeaves first second = (i : ℕ) → i < arrived (reverse first.events) → fetched_leaf first.opening (reverse first.events) i ≡ fetched_leaf second.opening (reverse second.events) i
+
+-- So the server sees the same.
+abbrev pub LeavesTellTraces : Type 0
+LeavesTellTraces = (first second : History) → FollowsLawfully first.opening (reverse first.events) → FollowsLawfully second.opening (reverse second.events)
+    → IsOneShape first second → SameLeaves first second → HasEqualTraces first second

@@ -16,5 +16,7 @@ pub use residents::{
     leaves_acknowledged, one_answer_is_newest, periods_are_counted, recent_is_resident,
     untouched_since, written_after_touch,
 };
-pub use tape_words::{distinct_words, words_are_known};
-pub use two_plays::{equal_traces, kinds_need_no_word, permutation_is_one_to_one};
+pub use tape_words::{distinct_words, lawful_is_in_range, words_are_known};
+pub use two_plays::{
+    equal_traces, kinds_need_no_word, leaves_tell_traces, permutation_is_one_to_one,
+};

@@ -1,0 +1,10 @@
+pub mod AlikeSessions
+pub mod AllowedMoves
+pub mod DrainedSessions
+pub mod QuietServers
+pub mod ServerVersions
+pub mod ToldAgain
+pub mod ToldEvents
+pub mod WorkedMoves
+pub mod WrittenVersions
+pub mod TwinScripts

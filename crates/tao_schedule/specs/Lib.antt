@@ -1,0 +1,9 @@
+pub mod Moves
+pub mod Schedules
+pub mod Steps
+pub mod Alike
+pub mod Laws
+pub mod Drains
+pub mod Twins
+pub mod Worked
+pub mod Written

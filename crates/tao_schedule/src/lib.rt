@@ -1,0 +1,22 @@
+//! Laws of schedules: the moves of requests and answers that are allowed, what the server holds after them, and the steps of scripts.
+//! There is no code but the laws: functions with empty bodies whose contract is the law.
+#![tactic(auto)]
+
+mod drains;
+mod schedules;
+mod twins;
+mod worked;
+mod written;
+
+pub use drains::{drain_ends, drain_goes_on, drains_alike};
+pub use schedules::{
+    alike_go_on, alike_steps, alike_tests, misplaced_stays, one_schedule, placed_may_go,
+    played_front, played_is_allowed, served_is_newest, server_is_newest, stays_in_step,
+    step_goes_on, tests_need_no_op,
+};
+pub use twins::{
+    retold_is_twin, twin_is_alike, twin_leaves, twin_meets_no_fault, twin_script_is_allowed,
+    twins_look_alike,
+};
+pub use worked::{worked_schedule, worked_steps};
+pub use written::{dones_within, issue_is_written, issued_is_written, places_move, written_stays};

@@ -1,0 +1,32 @@
+//! Laws: a second play of a schedule, with other operations.
+ghost use Rattle.tao_schedule.specs.Twins.{TwinLeaves, RetoldIsTwin, TwinIsAlike, TwinMeetsNoFault, TwinScriptIsAllowed, TwinsLookAlike};
+
+/// The second play fetches the leaves of the first. That both look the same rests on it.
+pub fn twin_leaves()
+    ensures { TwinLeaves }
+{}
+
+/// The permutation can be computed before the second play begins.
+pub fn retold_is_twin()
+    ensures { RetoldIsTwin }
+{}
+
+/// The second play is alike to the first as far as it came.
+pub fn twin_is_alike()
+    ensures { TwinIsAlike }
+{}
+
+/// The second play meets no step fault.
+pub fn twin_meets_no_fault()
+    ensures { TwinMeetsNoFault }
+{}
+
+/// Both plays look the same to the server.
+pub fn twins_look_alike()
+    ensures { TwinsLookAlike }
+{}
+
+/// No step of the script told again breaks.
+pub fn twin_script_is_allowed()
+    ensures { TwinScriptIsAllowed }
+{}

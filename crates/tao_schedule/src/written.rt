@@ -1,0 +1,27 @@
+//! Laws of what was written, of Dones and of places.
+ghost use Rattle.tao_schedule.specs.Written.{WrittenStays, IssueIsWritten, IssuedIsWritten, DonesWithin, PlacesMove};
+
+/// What was written stays.
+pub fn written_stays()
+    ensures { WrittenStays }
+{}
+
+/// A write-back is written under its version.
+pub fn issue_is_written()
+    ensures { IssueIsWritten }
+{}
+
+/// A version's nodes are those written under it.
+pub fn issued_is_written()
+    ensures { IssuedIsWritten }
+{}
+
+/// Each arrival is done at most once.
+pub fn dones_within()
+    ensures { DonesWithin }
+{}
+
+/// The permutation can be made place by place.
+pub fn places_move()
+    ensures { PlacesMove }
+{}
