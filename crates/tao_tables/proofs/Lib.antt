@@ -1,3 +1,11 @@
+pub mod CountedWork
+pub mod KeptAnswers
+pub mod KeptFlags
+pub mod KeptRows
+pub mod KeptWrites
 pub mod MovedTables
+pub mod PoolRoom
+pub mod ProxySteps
+pub mod RisingLists
 pub mod ServedAnswers
 pub mod WrittenTables

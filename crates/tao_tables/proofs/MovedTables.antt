@@ -4,7 +4,7 @@ use Rattle.std.proofs.lemmas.Bool.{eqb-true, and_from}
 use Rattle.std.proofs.lemmas.List.Elements.{All-nil, All-head, All-tail}
 use Rattle.tao_base.specs.declared.calls.Op.{Op}
 use Rattle.tao_base.specs.declared.session.Event.{Event}
-use Rattle.tao_base.specs.declared.session.Event.TheVariants.{Arrive, Done, Issue, Acked}
+use Rattle.tao_base.specs.declared.session.Event.TheVariants.{Arrive, Done, Issue, Acked, Fault}
 use Rattle.tao_base.specs.declared.storage.Bucket.{Bucket}
 use Rattle.tao_base.specs.declared.storage.Entry.{Entry}
 use Rattle.tao_base.specs.Limits.{Shape}
@@ -21,10 +21,10 @@ use Rattle.tao_held.specs.Counted.{count_below}
 use Rattle.tao_held.specs.Steps.{take_in, found_copy, value_or_zeros}
 use Rattle.tao_held.specs.Held.{held, after_fetch, found_in, block_on, value_since}
 use Rattle.tao_held.specs.HeldLaws.{AreIdsBelow}
-use Rattle.tao_held.proofs.Counts.{count_same, count_less, any_counts}
+use Rattle.tao_held.proofs.Counts.{count_same, count_within, count_less, any_counts}
 use Rattle.tao_held.proofs.Blocks.{real_on, on_below}
 use Rattle.tao_held.proofs.AlikeContents.{first_same, take_in_same, fetched_alike}
-use Rattle.tao_tables.specs.Tables.{cover_count, TellsNodes, TellsArrive, MovesTables, TellsDone, TellsIssue, TellsAcked}
+use Rattle.tao_tables.specs.Tables.{cover_count, TellsNodes, TellsArrive, MovesTables, TellsDone, TellsIssue, TellsAcked, TellsFault, TellsStart, CoverIsBounded}
 
 -- ---- an arrival
 
@@ -168,3 +168,34 @@ tells_acked o events version issued r r' c c' n t v tells = rw (newest_first eve
         ∙ ap (λ b. is_resident o (reverse events) w && not (b && (not (nat_lt (version * o.shape.k) (t w)) && nat_eq (n w) 0))) (is w)
         ∙ ap (λ k. is_resident o (reverse events) w && not (is_issued (reverse events) version w && (not (nat_lt (version * o.shape.k) k) && nat_eq (n w) 0))) (tells.touches w)
         ∙ ap (λ b. is_resident o (reverse events) w && not (is_issued (reverse events) version w && (not (nat_lt (version * o.shape.k) (last_touch o (reverse events) w)) && b))) (none_covers w)
+
+pub tells_fault : TellsFault
+unfolding held
+tells_fault o events cause r c n t v tells = rw (newest_first events (Fault cause)) (record {
+  residents = tells.residents;
+  contents = tells.contents;
+  counts = tells.counts;
+  touches = tells.touches;
+  versions = tells.versions;
+})
+
+-- ---- the start, and bounds
+
+pub tells_start : TellsStart
+unfolding held
+tells_start o stash r c n t v load away contents counts touches versions = record {
+  residents = away;
+  contents = λ w. contents w ∙ ap (λ entries. cond (nat_eq w 0) entries []) load;
+  counts = counts;
+  touches = touches;
+  versions = versions;
+}
+
+pub cover_is_bounded : CoverIsBounded
+cover_is_bounded o events w = record {
+  few = count_within (λ i. not (is_done (reverse events) i) && fetches o (reverse events) i w) (arrived (reverse events));
+  some = λ i there off on.
+      let less = count_less (λ j. not (is_done (reverse events) j) && fetches o (reverse events) j w) i (arrived (reverse events)) there
+      (and_from (not (is_done (reverse events) i)) (fetches o (reverse events) i w) (ap not off) on) in
+      omega (arith, less);
+}

@@ -1,5 +1,5 @@
 -- What was written, for the tables. The events `es` are newest first.
-use Rattle.std.proofs.Common.{◌≡◌, ℕ, ◌+◌, ◌<◌, ◌≤◌, Bool, true, false, ◌&&◌, ◌||◌, cond, List, [], ◌∷◌, ◌++◌, reverse, drop, All, Option, Some, None, is_some, refl, sym, ap, ◌∙◌, subst, arith, inl, inr, ◌⊎◌, nat_eq}
+use Rattle.std.proofs.Common.{◌≡◌, ℕ, ◌+◌, ◌≤◌, Bool, true, false, ◌&&◌, ◌||◌, cond, List, [], ◌∷◌, ◌++◌, reverse, drop, All, Option, Some, None, is_some, refl, sym, ap, ◌∙◌, subst, arith, inl, inr, ◌⊎◌, nat_eq}
 use Rattle.std.specs.Option.{option_or}
 use Rattle.std.proofs.lemmas.Bool.{eq-eqb, ne_eqb, eqb-true, true≢false, and_parts, or_cases, false_from_ne_true}
 use Rattle.std.proofs.lemmas.Option.{same_Some}
@@ -11,7 +11,6 @@ use Rattle.tao_base.specs.Session.{Opening}
 use Rattle.tao_base.specs.Tree.{node_count}
 use Rattle.tao_model.specs.Events.{issues}
 use Rattle.tao_model.specs.Residence.{bucket_of, is_issued, newest_write, newest_version}
-use Rattle.tao_model.specs.Trace.{nodes_in}
 use Rattle.tao_model.specs.Lawful.{IsInForm, OpensWithLoad, FollowsLawfully}
 use Rattle.tao_model.specs.WholeRecords.{before}
 use Rattle.tao_model.proofs.EventPlaces.{at_split}

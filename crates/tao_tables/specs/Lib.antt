@@ -1,3 +1,12 @@
 pub mod Answers
+pub mod Counted
+pub mod Flags
+pub mod Pools
+pub mod Positions
+pub mod Proxies
+pub mod Rows
+pub mod Served
 pub mod Tables
+pub mod Tags
+pub mod WriteBacks
 pub mod Writes

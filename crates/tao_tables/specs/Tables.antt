@@ -1,16 +1,18 @@
 -- The tables that a proxy keeps, as functions of the record, and what one more event makes of them. A record's events are oldest first.
-use Rattle.std.specs.Prelude.{◌≡◌, ℕ, ◌+◌, ◌-◌, ◌*◌, ◌<◌, ◌==◌, nat_lt, Bool, true, not, ◌&&◌, ◌||◌, if◌then◌else◌, List, [], ◌∷◌, reverse, is_some}
+use Rattle.std.specs.Prelude.{◌≡◌, ℕ, ◌+◌, ◌-◌, ◌*◌, ◌<◌, ◌≤◌, ◌==◌, nat_lt, Bool, true, false, not, ◌&&◌, ◌||◌, if◌then◌else◌, List, [], ◌∷◌, reverse, is_some}
 use Rattle.tao_base.specs.declared.calls.Op.{Op}
+use Rattle.tao_base.specs.declared.session.Cause.{Cause}
 use Rattle.tao_base.specs.declared.session.Event.{Event}
-use Rattle.tao_base.specs.declared.session.Event.TheVariants.{Arrive, Done, Issue, Acked}
+use Rattle.tao_base.specs.declared.session.Event.TheVariants.{Arrive, Done, Issue, Acked, Fault}
 use Rattle.tao_base.specs.declared.storage.Bucket.{Bucket}
 use Rattle.tao_base.specs.declared.storage.Entry.{Entry}
 use Rattle.tao_base.specs.Session.{Opening}
 use Rattle.tao_base.specs.Tree.{is_on_path}
 use Rattle.tao_model.specs.Events.{arrived, dones, is_done}
-use Rattle.tao_model.specs.Requests.{is_real, fetches, fetched_leaf, position}
+use Rattle.tao_model.specs.Requests.{is_real, fetches, leaf_at, fetched_leaf, position}
 use Rattle.tao_model.specs.Residence.{last_touch, bucket_of, is_issued, is_resident, newest_version}
 use Rattle.tao_model.specs.Placement.{entries_at}
+use Rattle.tao_model.specs.Evictions.{load_contents}
 use Rattle.tao_model.specs.Lawful.{FollowsLawfully}
 use Rattle.tao_model.specs.OneMore.{with_one_more}
 use Rattle.tao_held.specs.Counted.{count_below}
@@ -67,3 +69,23 @@ TellsAcked = (o : Opening) (events : List Event) (version : ℕ) (issued : ℕ �
     → ((w : ℕ) → r' w ≡ (r w && not (issued w && (not (nat_lt (version * o.shape.k) (t w)) && (n w == 0)))))
     → ((w : ℕ) → c' w ≡ (if w == 0 || r' w then c w else []))
     → TellsNodes o (with_one_more events (Acked version)) r' c' n t v
+
+-- a Fault changes nothing
+abbrev pub TellsFault : Type 0
+TellsFault = (o : Opening) (events : List Event) (cause : Cause) (r : ℕ → Bool) (c : ℕ → List Entry) (n t v : ℕ → ℕ)
+    → TellsNodes o (reverse events) r c n t v → TellsNodes o (with_one_more events (Fault cause)) r c n t v
+
+-- at the start no node is held, and nothing was touched or written; the stash has what the load left
+abbrev pub TellsStart : Type 0
+TellsStart = (o : Opening) (stash : List Entry) (r : ℕ → Bool) (c : ℕ → List Entry) (n t v : ℕ → ℕ) → stash ≡ load_contents o.shape (λ block. leaf_at o [] block) o.first 0
+    → ((w : ℕ) → r w ≡ false) → ((w : ℕ) → c w ≡ (if w == 0 then stash else [])) → ((w : ℕ) → n w ≡ 0) → ((w : ℕ) → t w ≡ 0) → ((w : ℕ) → v w ≡ 0)
+    → TellsNodes o [] r c n t v
+
+-- how many fetches cover a node: no more than there are arrivals, and some where one under way has it on its path
+pub record CoverBounds (o : Opening) (es : List Event) (w : ℕ) : Type 0 where
+  pub few : cover_count o es w ≤ arrived es
+  pub some : (i : ℕ) → i < arrived es → is_done es i ≡ false → fetches o es i w ≡ true → 0 < cover_count o es w
+
+-- so it is in any record
+abbrev pub CoverIsBounded : Type 0
+CoverIsBounded = (o : Opening) (events : List Event) (w : ℕ) → CoverBounds o (reverse events) w

@@ -1,5 +1,5 @@
 -- What was written, for the tables that a proxy keeps. A record's events are oldest first.
-use Rattle.std.specs.Prelude.{◌≡◌, ℕ, ◌≤◌, ◌==◌, true, List, reverse, Some}
+use Rattle.std.specs.Prelude.{◌≡◌, ℕ, ◌≤◌, ◌==◌, List, reverse, Some}
 use Rattle.std.specs.List.{list_any}
 use Rattle.tao_base.specs.declared.session.Event.{Event}
 use Rattle.tao_base.specs.declared.session.Event.TheVariants.{Issue}

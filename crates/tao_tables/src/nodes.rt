@@ -1,5 +1,5 @@
 //! Laws: the tables of nodes.
-ghost use Rattle.tao_tables.specs.Tables.{TellsArrive, TellsDone, TellsIssue, TellsAcked};
+ghost use Rattle.tao_tables.specs.Tables.{TellsArrive, TellsDone, TellsIssue, TellsAcked, TellsFault, TellsStart, CoverIsBounded};
 
 /// An arrival covers its path.
 pub fn tells_arrive()
@@ -19,4 +19,19 @@ pub fn tells_issue()
 /// An acknowledgement lets nodes go.
 pub fn tells_acked()
     ensures { TellsAcked }
+{}
+
+/// A Fault changes nothing.
+pub fn tells_fault()
+    ensures { TellsFault }
+{}
+
+/// At the start no node is held.
+pub fn tells_start()
+    ensures { TellsStart }
+{}
+
+/// A node is covered at most once by each arrival, and once at least by one under way.
+pub fn cover_is_bounded()
+    ensures { CoverIsBounded }
 {}

@@ -1,0 +1,42 @@
+//! Laws: the pools are enough under each event.
+ghost use Rattle.tao_tables.specs.Pools.{CountsAreKnown, RoomGrows, RoomArrive, RoomDone, RoomIssue, RoomAcked, RoomAtStart, RoomReserve};
+
+/// The counts of a lawful record keep their order.
+pub fn counts_are_known()
+    ensures { CountsAreKnown }
+{}
+
+/// Larger pools are enough too.
+pub fn room_grows()
+    ensures { RoomGrows }
+{}
+
+/// An arrival that there is room for finds what it takes.
+pub fn room_arrive()
+    ensures { RoomArrive }
+{}
+
+/// A Done finds what it takes.
+pub fn room_done()
+    ensures { RoomDone }
+{}
+
+/// A write-back that is due finds what it takes.
+pub fn room_issue()
+    ensures { RoomIssue }
+{}
+
+/// An acknowledgement finds what it takes.
+pub fn room_acked()
+    ensures { RoomAcked }
+{}
+
+/// At the start nothing is wanted.
+pub fn room_at_start()
+    ensures { RoomAtStart }
+{}
+
+/// Pools that are filled up have room for one more arrival.
+pub fn room_reserve()
+    ensures { RoomReserve }
+{}

@@ -1,0 +1,17 @@
+//! Laws: a record that a proxy makes.
+ghost use Rattle.tao_tables.specs.Proxies.{FollowsOn, OwesInTurn, ProxyGoesOn};
+
+/// It stays one under each event that comes lawfully, a write-back with what is held.
+pub fn proxy_goes_on()
+    ensures { ProxyGoesOn }
+{}
+
+/// A lawful record goes on lawfully with an event that may follow.
+pub fn follows_on()
+    ensures { FollowsOn }
+{}
+
+/// Only a Done that fills a period owes a write-back.
+pub fn owes_in_turn()
+    ensures { OwesInTurn }
+{}
