@@ -1,2 +1,3 @@
 pub mod TreeLemmas
 pub mod Fronts
+pub mod ImageLemmas

@@ -1,5 +1,6 @@
 pub mod Array
 pub mod Causes
+pub mod Images
 pub mod Items
 pub mod Limits
 pub mod Lines

@@ -1,5 +1,5 @@
 -- Bytes without a fault encode the bucket that is read, and what is encoded has no fault and is read again.
-use Rattle.std.proofs.Common.{◌≡◌, ℕ, ◌+◌, ◌-◌, ◌*◌, ◌^◌, ◌<◌, ◌≤◌, Bool, true, false, not, ◌&&◌, eqb, if◌then◌else◌, List, [], ◌∷◌, ◌++◌, length, get_or, take, drop, replicate, Option, Some, None, Result, Ok, Err, ◌↔◌, refl, sym, ap, ap₂, subst, ◌∙◌, append_assoc, arith}
+use Rattle.std.proofs.Common.{◌≡◌, ℕ, ◌+◌, ◌-◌, ◌*◌, ◌^◌, ◌<◌, ◌≤◌, ◌⊎◌, inl, inr, Bool, true, false, not, ◌&&◌, eqb, if◌then◌else◌, List, [], ◌∷◌, ◌++◌, length, get_or, take, drop, replicate, Option, Some, None, Result, Ok, Err, ◌↔◌, refl, sym, ap, ap₂, subst, ◌∙◌, append_assoc, arith}
 use Rattle.std.specs.List.{All, flat_map}
 use Rattle.std.specs.Prelude.{IsSomeAnd, OnOk}
 use Rattle.std.specs.Option.{option_or}
@@ -21,7 +21,7 @@ use Rattle.tao_tag.specs.Tags.{hmac, tag_key}
 use Rattle.tao_tag.proofs.Tagging.{length_hmac}
 use Rattle.tao_tape.specs.Keystream.{xored}
 use Rattle.tao_tape.proofs.Streams.{length_xored, xored_again, xored_fits}
-use Rattle.tao_bucket.specs.Encoding.{HasBlock, Encodes, header, slot_of, slots_of, body, tail}
+use Rattle.tao_bucket.specs.Encoding.{HasBlock, AreInForm, IsInForm, IsWritten, Encodes, header, slot_of, slots_of, body, tail, encoded, tag_of, format_of}
 use Rattle.tao_bucket.specs.Reading.{same, header_version, header_nonce, header_fault, tail_fault, slots_fault, clear_slots, bucket_fault, read_bucket, entries_of}
 use Rattle.tao_bucket.specs.Rooms.{RoomState, holding}
 use Rattle.tao_bucket.proofs.Again.{slots_again}
@@ -31,14 +31,14 @@ use Rattle.tao_bucket.proofs.Taken.{IsBytes, bytes_take, bytes_drop, slots_taken
 
 -- ---- the same bytes
 
-same_true : (xs ys : List ℕ) → same xs ys ≡ true → xs ≡ ys
+pub same_true : (xs ys : List ℕ) → same xs ys ≡ true → xs ≡ ys
 same_true [] [] e = refl
 same_true [] (y ∷ ys) e = absurd cc
 same_true (x ∷ xs) [] e = absurd cc
 same_true (x ∷ xs) (y ∷ ys) e =
     let both = and_parts (eqb x y) (same xs ys) e in ap₂ (λ a as'. a ∷ as') (eqb-true x y both.0) (same_true xs ys both.1)
 
-same_refl : (xs : List ℕ) → same xs xs ≡ true
+pub same_refl : (xs : List ℕ) → same xs xs ≡ true
 same_refl [] = refl
 same_refl (x ∷ xs) = and_from (eqb x x) (same xs xs) (eq-eqb x x refl) (same_refl xs)
 
@@ -89,7 +89,7 @@ tail_fine key s format bytes none = same_true _ _ (right (same (drop (slots_len 
 
 pub encoding_taken : (key : List ℕ) (s : Shape) (want format : ℕ) (bytes : List ℕ) → IsBytes bytes → bucket_fault key s want format bytes ≡ None
     → (header_node bytes ≡ want) × Encodes key s format (read_bucket key s bytes) bytes
-unfolding bucket_fault clear_slots
+unfolding bucket_fault clear_slots encoded
 encoding_taken key s want format bytes fit none =
     let all = none_or (option_or (header_fault s want format bytes) (tail_fault key s format bytes)) _ none in
     let first = none_or (header_fault s want format bytes) (tail_fault key s format bytes) all.0 in
@@ -140,6 +140,13 @@ length_of_slots z b es values few =
     sum_of : (z k w : ℕ) → k ≤ z → k * w + (z - k) * w ≡ z * w
     sum_of z k w h = let whole : k + (z - k) ≡ z = omega arith in let split : k * w + (z - k) * w ≡ (k + (z - k)) * w = omega arith in split ∙ ap (λ n. n * w) whole
 
+length_middle : (key : List ℕ) (s : Shape) (bucket : Bucket) → AreInForm s bucket.entries → length (xored key bucket.nonce (slots_of s.z s.b bucket.entries)) ≡ s.z * (4 + s.b)
+length_middle key s bucket form = length_xored key bucket.nonce (slots_of s.z s.b bucket.entries) ∙ length_of_slots s.z s.b bucket.entries form.values form.few
+
+length_body : (key : List ℕ) (s : Shape) (format : ℕ) (bucket : Bucket) → AreInForm s bucket.entries → length (body key s format bucket) ≡ slots_len s.z s.b
+length_body key s format bucket form =
+    length-append (header format bucket.node bucket.version bucket.nonce) (xored key bucket.nonce (slots_of s.z s.b bucket.entries)) ∙ ap (λ n. 20 + n) (length_middle key s bucket form)
+
 without : (b : Bool) (x : BucketFault) (o : Option BucketFault) → b ≡ true → o ≡ None → (if not b then Some x else o) ≡ None
 without true x o e none = none
 without false x o e none = absurd cc
@@ -149,15 +156,14 @@ bucket_of node version nonce entries = record { node = node; version = version; 
 
 pub encoding_again : (key : List ℕ) (s : Shape) (format : ℕ) (bucket : Bucket) (bytes : List ℕ) → s.n < 2 ^ 32 → Encodes key s format bucket bytes
     → (bucket_fault key s bucket.node format bytes ≡ None) × (read_bucket key s bytes ≡ bucket)
-unfolding bucket_fault clear_slots
+unfolding bucket_fault clear_slots encoded
 encoding_again key s format bucket bytes small is =
     let slots = slots_of s.z s.b bucket.entries in
     let head = header format bucket.node bucket.version bucket.nonce in
     let front = body key s format bucket in
     let end = tail key s.form format front in
-    let slots_are = length_of_slots s.z s.b bucket.entries is.entries.values is.entries.few in
-    let middle_len : length (xored key bucket.nonce slots) ≡ s.z * (4 + s.b) = length_xored key bucket.nonce slots ∙ slots_are in
-    let front_len : length front ≡ slots_len s.z s.b = length-append head (xored key bucket.nonce slots) ∙ ap (λ n. 20 + n) middle_len in
+    let middle_len = length_middle key s bucket is.entries in
+    let front_len = length_body key s format bucket is.entries in
     let end_len = length_tail key s.form format front in
     let apart : bytes ≡ head ++ (xored key bucket.nonce slots ++ end) = is.written ∙ append_assoc head (xored key bucket.nonce slots) end in
     let len : length bytes ≡ bucket_len s = ap length is.written ∙ length-append front end ∙ ap₂ ◌+◌ front_len end_len in
@@ -190,7 +196,7 @@ encoding_again key s format bucket bytes small is =
 
 -- ---- of all encodings
 
-few_blocks : (s : Shape) → IsShape s → s.n < 2 ^ 32
+pub few_blocks : (s : Shape) → IsShape s → s.n < 2 ^ 32
 few_blocks s is =
     let leaves : 2 ^ s.l ≤ 2 ^ 16 = pow_mono is.height_high in
     let most : s.z * 2 ^ s.l ≤ 8 * 2 ^ 16 = mul-le s.z (2 ^ s.l) 8 (2 ^ 16) is.bucket_high leaves in
@@ -207,6 +213,59 @@ faultless_encoding key s want format bytes shape fit = (
   λ none. let taken = encoding_taken key s want format bytes fit none in (read_bucket key s bytes, taken.0, taken.1),
   λ is. subst (λ node. bucket_fault key s node format bytes ≡ None) is.1 (encoding_again key s format is.0 bytes (few_blocks s shape) is.2).0,
 )
+
+-- ---- the encoding of a bucket
+
+small_node : (s : Shape) (bucket : Bucket) → IsShape s → IsInForm s bucket → bucket.node < 2 ^ 32
+small_node s bucket shape form =
+    let height : s.l + 1 ≤ 17 = let l = shape.height_high in omega arith in
+    let nodes : 2 ^ (s.l + 1) ≤ 2 ^ 17 = pow_mono height in
+    let high = form.node_high in
+    omega arith
+
+pub encoding_of : (key : List ℕ) (s : Shape) (format : ℕ) (bucket : Bucket) (bytes : List ℕ) → IsShape s → IsInForm s bucket → bucket.version < 2 ^ 32 → bucket.nonce < 2 ^ 64
+    → Encodes key s format bucket bytes ↔ (bytes ≡ encoded key s format bucket)
+encoding_of key s format bucket bytes shape form version nonce = (
+  λ is. is.written,
+  λ e. record { entries = form.entries; node = small_node s bucket shape form; version = version; nonce = nonce; written = e },
+)
+
+pub encoded_parts : (key : List ℕ) (s : Shape) (format : ℕ) (bucket : Bucket) → IsShape s → IsInForm s bucket
+    → (length (encoded key s format bucket) ≡ bucket_len s) × ((rest : List ℕ) → header_node (encoded key s format bucket ++ rest) ≡ bucket.node)
+unfolding encoded
+encoded_parts key s format bucket shape form =
+    let head = header format bucket.node bucket.version bucket.nonce in
+    let middle = xored key bucket.nonce (slots_of s.z s.b bucket.entries) in
+    let front = body key s format bucket in
+    let end = tail key s.form format front in (
+      length-append front end ∙ ap₂ ◌+◌ (length_body key s format bucket form.entries) (length_tail key s.form format front),
+      λ rest.
+          ap header_node (append_assoc front end rest ∙ append_assoc head middle (end ++ rest))
+          ∙ node_again format bucket.node bucket.version bucket.nonce (middle ++ (end ++ rest)) (small_node s bucket shape form),
+    )
+
+-- what stands behind a body in format 2 is the tag
+tag_behind : (form : Form) (key front : List ℕ) → IsWritten form 2 → tail key form 2 front ≡ hmac (tag_key key) front
+tag_behind One key front written = absurd cc
+tag_behind Two key front written = refl
+tag_behind Turn key front written = refl
+
+pub tag_of_encoded : (key : List ℕ) (s : Shape) (bucket : Bucket) → IsWritten s.form 2 → AreInForm s bucket.entries → drop (slots_len s.z s.b) (encoded key s 2 bucket) ≡ tag_of key s bucket
+unfolding encoded tag_of
+tag_of_encoded key s bucket written form =
+    let front = body key s 2 bucket in
+    drop_at front (tail key s.form 2 front) (slots_len s.z s.b) (length_body key s 2 bucket form) ∙ tag_behind s.form key front written
+
+-- the format of a version is one or the other
+pub one_or_two : (form : Form) (version : ℕ) → (format_of form version ≡ 1) ⊎ (format_of form version ≡ 2)
+one_or_two One version = inl refl
+one_or_two Two version = inr refl
+one_or_two Turn version = elim (eqb version 0) as (λ (loaded : Bool). IsWritten Turn (if loaded then 1 else 2)) [ true ↦ inl refl | false ↦ inr refl ]
+
+pub format_is_written : (form : Form) (version : ℕ) → IsWritten form (format_of form version)
+format_is_written One version = refl
+format_is_written Two version = refl
+format_is_written Turn version = one_or_two Turn version
 
 -- ---- what a call answers and leaves in the room
 

@@ -47,6 +47,12 @@ IsWritten One format = format ≡ 1
 IsWritten Two format = format ≡ 2
 IsWritten Turn format = (format ≡ 1) ⊎ (format ≡ 2)
 
+-- the format of a node's bucket of this version: the load has version 0
+abbrev pub format_of : Form → ℕ → ℕ
+format_of One version = 1
+format_of Two version = 2
+format_of Turn version = if version == 0 then 1 else 2
+
 -- the first 20 bytes
 abbrev pub header : ℕ → ℕ → ℕ → ℕ → List ℕ
 header format node version nonce = (format ∷ 0 ∷ 0 ∷ 0 ∷ []) ++ to_be_bytes w32 node ++ to_be_bytes w32 version ++ to_be_bytes w64 nonce
@@ -69,10 +75,18 @@ tail key One format body = []
 tail key Two format body = hmac (tag_key key) body
 tail key Turn format body = if format == 2 then hmac (tag_key key) body else replicate 32 0
 
+-- the encoding of a bucket under the key, in a format of the store
+unfoldable pub encoded : List ℕ → Shape → ℕ → Bucket → List ℕ
+encoded key s format bucket = body key s format bucket ++ tail key s.form format (body key s format bucket)
+
+-- the tag of a bucket: that of its header and slots in format 2
+unfoldable pub tag_of : List ℕ → Shape → Bucket → List ℕ
+tag_of key s bucket = hmac (tag_key key) (body key s 2 bucket)
+
 -- These bytes are the encoding of the bucket under the key, in a format of the store.
 pub record Encodes (key : List ℕ) (s : Shape) (format : ℕ) (bucket : Bucket) (bytes : List ℕ) : Type 0 where
   pub entries : AreInForm s bucket.entries
   pub node : bucket.node < 2 ^ 32
   pub version : bucket.version < 2 ^ 32
   pub nonce : bucket.nonce < 2 ^ 64
-  pub written : bytes ≡ body key s format bucket ++ tail key s.form format (body key s format bucket)
+  pub written : bytes ≡ encoded key s format bucket

@@ -1,7 +1,7 @@
 //! Bytes as a bucket.
-ghost use Rattle.std.specs.Prelude.{◌≡◌, Ok, Some, None, OnOk, OnErr, IsSomeAnd};
+ghost use Rattle.std.specs.Prelude.{◌≡◌, Ok, Some, None, OnOk, OnErr, IsSomeAnd, length};
 ghost use Rattle.std.specs.Result.{result_err};
-ghost use Rattle.tao_base.specs.Limits.{IsShape};
+ghost use Rattle.tao_base.specs.Limits.{IsShape, bucket_len};
 ghost use Rattle.tao_base.specs.declared.storage.Bucket.{Bucket};
 ghost use Rattle.tao_bucket.specs.Encoding.{IsWritten, Encodes};
 ghost use Rattle.tao_bucket.specs.Reading.{bucket_fault, read_bucket};
@@ -25,12 +25,14 @@ pub fn decode(
     requires format { IsWritten p.now.form format }
     requires z { room.old.z ≡ p.now.z }
     requires b { room.old.b ≡ p.now.b }
+    ensures value { OnOk result (room.new.held ≡ Some (read_bucket key.now p.now bytes.now)) }
     // What the room holds is what these bytes encode.
     ensures found { OnOk result (IsSomeAnd room.new.held (λ bucket. (bucket.node ≡ want) × Encodes key.now p.now format bucket bytes.now)) }
     // What these bytes encode is what the room holds.
     ensures only { (bucket : Bucket) → bucket.node ≡ want → Encodes key.now p.now format bucket bytes.now
         → (result ≡ Ok tt) × (room.new.held ≡ Some bucket) }
     ensures fault { result_err result ≡ bucket_fault key.now p.now want format bytes.now }
+    ensures len { OnOk result (length bytes.now ≡ bucket_len p.now) }
     ensures empty { OnErr result (room.new.held ≡ None) }
     ensures kept { room.new ≡ record room.old { held = room.new.held } }
 {
@@ -51,6 +53,7 @@ fn read_into(
     ensures fault { result_err result ≡ bucket_fault key.now p.now want format bytes.now }
     ensures ok { OnOk result (room.new ≡ holding room.old (read_bucket key.now p.now bytes.now)) }
     ensures err { OnErr result (room.new ≡ emptied room.old) }
+    ensures len { OnOk result (length bytes.now ≡ bucket_len p.now) }
     ensures shape { IsShape p.now }
 {
     room.empty();

@@ -10,6 +10,7 @@ use tao_base::{Bucket, Params};
 use tao_tape::xor_stream;
 
 /// Writes the encoding of a bucket in this format, under the store's key.
+#[tactic(auto, unfolding(crate::specs::Encoding::encoded))]
 pub fn encode_into(bucket: &Bucket, p: &Params, key: &[u8; 32], format: u8, out: &mut [u8])
     requires form { IsInForm p.now bucket.now }
     requires format { IsWritten p.now.form format }

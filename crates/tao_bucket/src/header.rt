@@ -1,7 +1,7 @@
 //! The header of a bucket, which is in clear: the format, three zero bytes, the node, the version and the nonce.
-ghost use Rattle.std.specs.Prelude.{◌≡◌, ◌^◌, ◌<◌, ◌≤◌, length};
+ghost use Rattle.std.specs.Prelude.{◌≡◌, ◌^◌, ◌<◌, ◌≤◌, length, OnOk};
 ghost use Rattle.std.specs.Result.{result_err};
-ghost use Rattle.tao_base.specs.Limits.{IsShape};
+ghost use Rattle.tao_base.specs.Limits.{IsShape, bucket_len};
 ghost use Rattle.tao_base.specs.Links.{header_node};
 ghost use Rattle.tao_bucket.specs.Encoding.{header};
 ghost use Rattle.tao_bucket.specs.Reading.{header_version, header_nonce, header_fault};
@@ -55,6 +55,7 @@ pub(crate) fn check_header(
     bytes: &[u8],
 ) -> Result<(), BucketFault>
     ensures fault { result_err result ≡ header_fault p.now want format bytes.now }
+    ensures len { OnOk result (length bytes.now ≡ bucket_len p.now) }
     ensures shape { IsShape p.now }
 {
     if bytes.len() != p.bucket_len() as usize {

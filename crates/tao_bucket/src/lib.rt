@@ -3,6 +3,7 @@
 
 mod decoding;
 mod encoding;
+mod formats;
 mod header;
 mod laws;
 mod room;
@@ -14,7 +15,11 @@ mod tests;
 
 pub use decoding::decode;
 pub use encoding::encode_into;
+pub use formats::format_of;
 pub use header::{node_of, nonce_of, version_of};
-pub use laws::{no_fault_where_encoded, one_bucket, one_encoding};
+pub use laws::{
+    encoding_names_its_node, no_fault_where_encoded, one_bucket, one_encoding, tag_follows_slots,
+};
 pub use room::Room;
 pub use stock::stocked;
+pub use tail::tail_of;

@@ -90,7 +90,8 @@ impl Room {
         self.is_full = false;
     }
 
-    pub(crate) fn empty(&mut self)
+    /// Leaves the room without a bucket.
+    pub fn empty(&mut self)
         ensures { self.new ≡ emptied self.old }
     {
         self.is_full = false;

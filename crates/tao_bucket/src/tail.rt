@@ -16,6 +16,14 @@ pub(crate) fn body_len(p: &Params) -> usize
     20 + p.z() as usize * (4 + p.b() as usize)
 }
 
+/// What stands behind the slots of a bucket: its tag, or the place of one; nothing in a store without tags.
+pub fn tail_of<'a>(p: &Params, bytes: &'a [u8]) -> &'a [u8]
+    requires { length bytes.now ≡ bucket_len p.now }
+    ensures { result.now ≡ drop (slots_len p.now.z p.now.b) bytes.now }
+{
+    &bytes[body_len(p)..]
+}
+
 /// Writes what belongs behind this body.
 pub(crate) fn write_tail(p: &Params, key: &[u8; 32], format: u8, body: &[u8], out: &mut [u8])
     requires format { IsWritten p.now.form format }

@@ -1,17 +1,17 @@
 -- An image that is applied bucket after bucket.
 use Rattle.std.proofs.Common.{◌≡◌, ℕ, ◌+◌, ◌-◌, ◌*◌, ◌/◌, ◌%◌, ◌<◌, ◌≤◌, List, [], ◌∷◌, length, map, fold, take, drop, slice_index, slice_set, Some, Bool, true, false, if◌then◌else◌, refl, sym, ap, ◌∙◌, arith}
 use Rattle.std.specs.List.{range_with_len}
-use Rattle.std.specs.Int.{w32, from_be_bytes}
-use Rattle.std.proofs.lemmas.List.{drop-take, take-take}
 use Rattle.std.proofs.lemmas.List.Elements.{All-get_or}
 use Rattle.std.proofs.lemmas.List.FromFn.{map-range_with_len_more}
 use Rattle.std.proofs.lemmas.List.Sums.{fold-append}
 use Rattle.std.proofs.Math.Nat.{mul-mod_left, mul-div_left}
+use Rattle.tao_base.specs.Images.{bucket_in}
 use Rattle.tao_base.specs.Limits.{Shape, bucket_len}
 use Rattle.tao_base.specs.Links.{IsSendable, header_node}
 use Rattle.tao_base.specs.Tree.{node_count}
 use Rattle.tao_base.specs.declared.storage.Order.{Order}
-use Rattle.tao_tree.specs.Nodes.{TreeState, applied, bucket_applied, bucket_in, holding, is_newer, version_at, IsWhole, reach_of}
+use Rattle.tao_base.proofs.ImageLemmas.{header_within}
+use Rattle.tao_tree.specs.Nodes.{TreeState, applied, bucket_applied, holding, is_newer, version_at, IsWhole, reach_of}
 
 -- a write leaves the parameters
 pub applied_shape : (tree : TreeState) (version node : ℕ) (bytes : List ℕ) → (applied tree version node bytes).shape ≡ tree.shape
@@ -29,14 +29,6 @@ applied_more version i n len node first tree new image bucket same before w part
     let last : new ≡ bucket_applied version tree (bucket_in len image i) = now ∙ ap (λ v. applied tree version v bucket) w ∙ ap (bucket_applied version tree) here in
     last ∙ ap (λ t. bucket_applied version t (bucket_in len image i)) before
     ∙ sym (ap (fold (bucket_applied version) first) (map-range_with_len_more (bucket_in len image) 0 i i (omega arith)) ∙ fold-append (bucket_applied version) first (map (bucket_in len image) (range_with_len 0 i)) (bucket_in len image i ∷ []))
-
--- the header of a bucket is within it
-header_within : (len at : ℕ) (image : List ℕ) → 8 ≤ len → header_node (take len (drop at image)) ≡ header_node (drop at image)
-header_within len at image h =
-    let rest : 4 + (len - 4) ≡ len = omega arith in
-    ap (λ m. from_be_bytes w32 (take 4 (drop 4 (take m (drop at image))))) (sym rest)
-    ∙ ap (λ b. from_be_bytes w32 (take 4 b)) (drop-take 4 (len - 4) (drop at image))
-    ∙ ap (from_be_bytes w32) (take-take 4 (len - 4) (drop 4 (drop at image)) (omega arith))
 
 -- an order that may be sent is whole buckets of nodes of the tree
 pub sendable_whole : (s : Shape) (order : Order) (image : List ℕ) → image ≡ order.image → 8 ≤ bucket_len s → IsSendable (reach_of s) order → IsWhole s image

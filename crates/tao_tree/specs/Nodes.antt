@@ -1,8 +1,9 @@
 -- What the nodes of a tree hold, and what writes do to it.
-use Rattle.std.specs.Prelude.{◌≡◌, ℕ, ◌-◌, ◌*◌, ◌/◌, ◌%◌, ◌<◌, ◌≤◌, Bool, true, nat_lt, List, [], ◌∷◌, length, take, drop, map, fold, replicate, slice_set, Option, Some, None, if◌then◌else◌}
-use Rattle.std.specs.List.{flat_map, range_with_len, slice_index_or}
+use Rattle.std.specs.Prelude.{◌≡◌, ℕ, ◌-◌, ◌*◌, ◌/◌, ◌%◌, ◌<◌, ◌≤◌, Bool, true, nat_lt, List, [], ◌∷◌, length, take, drop, fold, replicate, slice_set, Option, Some, None, if◌then◌else◌}
+use Rattle.std.specs.List.{flat_map, slice_index_or}
 use Rattle.std.specs.Option.{option_map}
 use Rattle.tao_base.specs.Limits.{Shape, bucket_len}
+use Rattle.tao_base.specs.Images.{bucket_in, buckets_in}
 use Rattle.tao_base.specs.Links.{Reach, header_node}
 use Rattle.tao_base.specs.Tree.{node_count, path}
 
@@ -79,14 +80,6 @@ pub record IsLaidOut (s : Shape) (bytes : List ℕ) (versions : List (Option ℕ
   pub count : length versions ≡ node_count s.l
   pub len : length bytes ≡ length versions * bucket_len s
   pub blank : AreBlank (bucket_len s) bytes versions
-
--- bucket i of an image, counted from 0, each being of this length
-abbrev pub bucket_in : ℕ → List ℕ → ℕ → List ℕ
-bucket_in len image i = take len (drop (i * len) image)
-
--- the buckets of an image, each of this length; a shorter rest is left out
-abbrev pub buckets_in : ℕ → List ℕ → List (List ℕ)
-buckets_in len image = map (bucket_in len image) (range_with_len 0 (length image / len))
 
 -- an image is whole buckets of nodes of the tree
 pub record IsWhole (s : Shape) (image : List ℕ) : Type 0 where

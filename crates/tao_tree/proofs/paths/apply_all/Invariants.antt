@@ -2,7 +2,8 @@
 use Rattle.std.proofs.Common.{◌≡◌, map, fold}
 use Rattle.std.specs.List.{range_with_len}
 use Rattle.tao_base.specs.Limits.{bucket_len}
-use Rattle.tao_tree.specs.Nodes.{bucket_applied, bucket_in}
+use Rattle.tao_base.specs.Images.{bucket_in}
+use Rattle.tao_tree.specs.Nodes.{bucket_applied}
 use Rattle.tao_tree.proofs.paths.apply_all.Given as goal
 
 abbrev pub invariant-loop-i : goal.invariant-loop-i

@@ -1,0 +1,19 @@
+//! The bytes of nodes, read against what is known of their latest writes, and orders, written and compared.
+#![tactic(auto)]
+
+mod comparing;
+mod laws;
+mod nodes;
+mod orders;
+mod paths;
+#[cfg(test)]
+mod tests;
+
+pub use comparing::is_order;
+pub use laws::{
+    forms_agree, known_alike, nothing_refused, orders_fit, orders_have_tags, read_means,
+    refusal_means, unforged_is_honest,
+};
+pub use nodes::{Refused, read_node};
+pub use orders::{order_room, write_order};
+pub use paths::{Known, read_path};
