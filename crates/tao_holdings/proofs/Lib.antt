@@ -3,7 +3,7 @@ mod Swapped
 mod Arrived
 mod EvictedPath
 mod FoundCopy
-mod Exchanged
+pub mod Exchanged
 mod PutValue
 mod Fetching
 mod Versioned

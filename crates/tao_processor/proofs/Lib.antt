@@ -1,0 +1,12 @@
+pub mod AckedKept
+pub mod ArriveKept
+pub mod DoneHoldings
+pub mod DoneKept
+pub mod DoneReady
+pub mod Finished
+pub mod IssueKept
+pub mod Kept
+pub mod Opened
+pub mod ReserveKept
+pub mod TouchedNodes
+pub mod WrittenBack

@@ -1,0 +1,20 @@
+use Rattle.std.proofs.Common.{◌≡◌, ◌+◌, ◌*◌, ◌≤◌, ℕ, List, All, length, refl, sym, ap, ap₂, ◌∙◌, subst, arith}
+use Rattle.std.specs.Prelude.{vec_capacity}
+use Rattle.tao_holdings.specs.Holding.{HoldingsState, none_held, leaf_by}
+use Rattle.tao_flush.specs.Loads.{IsLoaded}
+use Rattle.tao_record.specs.State.{opened}
+use Rattle.tao_processor.proofs.Opened.{opened_from}
+use Rattle.tao_processor.proofs.processor.Processor.open.Goals as goal
+
+pub invariant_of-result : goal.invariant_of-result
+invariant_of-result c =
+    let st : c.in_ok-loaded.holdings ≡ none_held c.args.p.now c.in_ok-loaded.holdings.stash c.args.words =
+    c.in_ok-loaded.ensures.state ∙ ap (λ (ws : List ℕ). none_held c.args.p.now c.in_ok-loaded.holdings.stash ws) c.as_slice.ensures in
+    let load = subst (λ (bs : List (List ℕ)). IsLoaded c.args.p.now (leaf_by (none_held c.args.p.now c.in_ok-loaded.holdings.stash c.args.words)) bs c.in_ok-loaded.loaded c.in_ok-loaded.holdings.stash) c.as_slice-2.ensures
+    (subst (λ (lf : ℕ → ℕ). IsLoaded c.args.p.now lf c.as_slice-2.result.now c.in_ok-loaded.loaded c.in_ok-loaded.holdings.stash) (ap (λ (h : HoldingsState). leaf_by h) st) c.in_ok-loaded.ensures.loaded) in
+    let wide = subst (λ n. n * (c.args.p.now.l + 1) ≤ vec_capacity c.in_ok-recent.recent) c.k.ensures.value
+    (subst (λ m. c.k.result * (m + 1) ≤ vec_capacity c.in_ok-recent.recent) c.l.ensures.value c.in_ok-recent.ensures.capacity) in
+    opened_from {words = c.args.words} {blocks = c.args.blocks} {loaded = c.in_ok-loaded.loaded} {stash = c.in_ok-loaded.holdings.stash} c.k.ensures.shape c.requires.words c.requires.blocks c.requires.values
+    load c.in_ok-loaded.ensures.entries c.in_ok-written.ensures wide
+    c.in_ok-session.ensures c.in_ok-requests.ensures c.in_ok-sequence.ensures c.in_ok-acknowledged.ensures c.new-4.ensures.items c.new-4.ensures.len c.in_ok-recent.ensures.items c.new-5.ensures.items
+    (ap (λ n. n + 1) (c.from.ensures ∙ c.nodes.ensures.value)) st c.new-6.ensures.items c.new-6.ensures.len

@@ -1,0 +1,4 @@
+pub mod Groups
+pub mod State
+pub mod Steps
+pub mod Topping

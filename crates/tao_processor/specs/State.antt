@@ -1,0 +1,57 @@
+-- What contracts see of the processor, and what is known of it after each event.
+use Rattle.std.specs.Prelude.{◌≡◌, ℕ, ◌+◌, ◌<◌, Bool, false, List, [], ◌∷◌, ◌++◌, reverse}
+use Rattle.tao_base.specs.declared.session.Event.{Event}
+use Rattle.tao_base.specs.declared.session.Event.TheVariants.{Issue}
+use Rattle.tao_model.specs.Events.{issues}
+use Rattle.tao_base.specs.declared.storage.Bucket.{Bucket}
+use Rattle.tao_base.specs.Limits.{Shape}
+use Rattle.tao_base.specs.Session.{Opening, History}
+use Rattle.tao_model.specs.Requests.{position}
+use Rattle.tao_model.specs.Residence.{last_touch, is_resident, newest_version}
+use Rattle.tao_held.specs.Held.{held, IsOfProxy}
+use Rattle.tao_tables.specs.Tables.{cover_count}
+use Rattle.tao_holdings.specs.Holding.{HoldingsState, is_held, contents_in, count_in, touch_in, version_in, leaf_by, AreForms}
+
+-- the key, the record, what is held, whether one more arrival has its memory, and the buckets that were looked at last
+pub record ProcessorState : Type 0 where
+  pub key : List ℕ
+  pub history : History
+  pub holdings : HoldingsState
+  pub ready : Bool
+  pub looked : List Bucket
+
+-- the events, the newest first
+abbrev pub events_of : ProcessorState → List Event
+events_of c = reverse c.history.events
+
+-- the record with one more event
+abbrev pub with_event : History → Event → History
+with_event h e = record h { events = h.events ++ e ∷ [] }
+
+-- What is known of a processor after each event, also between a Done and its write-back.
+pub record IsProcessorSound (c : ProcessorState) : Type 0 where
+  pub proxy : IsOfProxy c.history.opening (reverse c.history.events)
+  pub residents : (w : ℕ) → is_held c.holdings w ≡ is_resident c.history.opening (reverse c.history.events) w
+  pub contents : (w : ℕ) → contents_in c.holdings w ≡ held c.history.opening (reverse c.history.events) w
+  pub positions : (b : ℕ) → b < c.history.opening.shape.n → leaf_by c.holdings b ≡ position c.history.opening (reverse c.history.events) b
+  pub counts : (w : ℕ) → count_in c.holdings w ≡ cover_count c.history.opening (reverse c.history.events) w
+  pub touches : (w : ℕ) → touch_in c.holdings w ≡ last_touch c.history.opening (reverse c.history.events) w
+  pub versions : (w : ℕ) → version_in c.holdings w ≡ newest_version (reverse c.history.events) w
+  pub shape : c.holdings.shape ≡ c.history.opening.shape
+  pub forms : AreForms c.holdings
+
+-- a write-back was recorded, and nothing else changed that contracts see
+pub record Issues (old new : ProcessorState) : Type 0 where
+  pub nonce : ℕ
+  pub buckets : List Bucket
+  pub state : new ≡ record old { history = with_event old.history (Issue (issues (reverse old.history.events) + 1) nonce buckets); holdings = new.holdings }
+
+-- a session begins with this opening
+pub record IsOpened (k : List ℕ) (s : Shape) (tape : List ℕ) (blocks : List (List ℕ)) (c : ProcessorState) : Type 0 where
+  pub key_is : c.key ≡ k
+  pub shape_is : c.history.opening.shape ≡ s
+  pub words_are : c.history.opening.words ≡ tape
+  pub first_is : c.history.opening.first ≡ blocks
+  pub events_are : c.history.events ≡ []
+  pub ready_is : c.ready ≡ false
+  pub looked_is : c.looked ≡ []

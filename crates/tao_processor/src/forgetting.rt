@@ -1,0 +1,32 @@
+//! Nodes that leave.
+ghost use Rattle.std.specs.Prelude.{◌≡◌, ℕ};
+ghost use Rattle.tao_base.specs.declared.session.Event.TheVariants.{Issue};
+ghost use Rattle.tao_model.specs.WholeRecords.{IsAt};
+ghost use Rattle.tao_model.specs.Trace.{nodes_in};
+ghost use Rattle.tao_tables.specs.WriteBacks.{IsIssueAt};
+ghost use Rattle.tao_processor.specs.Steps.{Forgets};
+
+use tao_base::{Bucket, Event};
+use tao_holdings::Holdings;
+
+/// The buckets of the write-back of this version, which stands at a place of the record.
+pub(crate) fn issued(events: &[Event], place: usize, version: u32) -> &[Bucket]
+    requires there { IsIssueAt events.now place version }
+    ensures { (nonce : ℕ) × IsAt events.now place (Issue version nonce result.now) }
+{
+    match &events[place] {
+        Event::Issue { buckets, .. } => buckets.as_slice(),
+        Event::Arrive { .. } | Event::Done { .. } | Event::Acked { .. } | Event::Fault { .. } => {
+            unreachable!()
+        }
+    }
+}
+
+/// Lets the nodes of these buckets go that may, once their write-back of this version is acknowledged.
+pub(crate) fn forget_all(holdings: &mut Holdings, version: u32, buckets: &[Bucket])
+    ensures { Forgets version (nodes_in buckets.now) holdings.old holdings.new }
+{
+    for i in 0..buckets.len() {
+        holdings.forget_one(version, buckets[i].node);
+    }
+}

@@ -1,0 +1,24 @@
+//! Buckets without entries.
+ghost use Rattle.std.specs.Prelude.{◌≡◌, ◌≤◌, All, IfOk, vec_len, min};
+ghost use Rattle.tao_record.specs.State.{issue_len};
+ghost use Rattle.tao_processor.specs.Steps.{AreEmptyBuckets};
+
+use std::alloc::Global;
+use tao_base::{Bucket, Entries, NoMemory, Params};
+
+/// Buckets in whose place those of any write-back can stand.
+pub(crate) fn empty_buckets(alloc: Global, p: &Params) -> Result<Vec<Bucket>, NoMemory>
+    ensures { IfOk result (λ buckets. AreEmptyBuckets (issue_len p.now) buckets.items) }
+{
+    let count = (p.k() as usize * (p.l() as usize + 1)).min(p.nodes() as usize);
+    let mut buckets = Vec::with_capacity(alloc, count)?;
+    for _ in 0..count {
+        buckets.push(Bucket {
+            node: 0,
+            version: 0,
+            nonce: 0,
+            entries: Entries::new(alloc)?,
+        })?;
+    }
+    Ok(buckets)
+}

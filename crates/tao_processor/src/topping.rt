@@ -1,0 +1,150 @@
+//! Memory for one more arrival.
+ghost use Rattle.std.specs.Prelude.{◌≡◌, ◌≤◌, length, vec_len, vec_capacity, All, OnOk};
+ghost use Rattle.tao_tables.specs.Pools.{KeepsPools, wanted};
+ghost use Rattle.tao_processor.specs.Topping.{pools_from, pools_in};
+
+use crate::fetches::Fetch;
+use std::alloc::Global;
+use tao_base::{Block, Bucket, Entries, Image, NoMemory, Numbers, Order, Params};
+use tao_record::Record;
+use tao_requests::Requests;
+
+/// Makes the values at least so many, each of `len` bytes.
+pub(crate) fn fill_values(
+    alloc: Global,
+    len: usize,
+    values: &mut Vec<Block>,
+    count: usize,
+) -> Result<(), NoMemory>
+    requires each { All (λ value. length value ≡ len) values.old.items }
+    ensures each { All (λ value. length value ≡ len) values.new.items }
+    ensures kept { vec_len values.old ≤ vec_len values.new }
+    ensures ok { OnOk result (count ≤ vec_len values.new) }
+{
+    while values.len() < count {
+        values.push(Block::from_vec(vec![in alloc; 0; len]?))?;
+    }
+    Ok(())
+}
+
+/// Makes the orders at least so many.
+pub(crate) fn fill_orders(
+    alloc: Global,
+    orders: &mut Vec<Order>,
+    count: usize,
+) -> Result<(), NoMemory>
+    ensures kept { vec_len orders.old ≤ vec_len orders.new }
+    ensures ok { OnOk result (count ≤ vec_len orders.new) }
+{
+    while orders.len() < count {
+        orders.push(Order {
+            version: 0,
+            nonce: 0,
+            nodes: Numbers::new(alloc),
+            image: Image::new(alloc),
+        })?;
+    }
+    Ok(())
+}
+
+/// Makes the buckets of stock at least so many.
+pub(crate) fn fill_stock(
+    alloc: Global,
+    stock: &mut Vec<Bucket>,
+    count: usize,
+) -> Result<(), NoMemory>
+    ensures kept { vec_len stock.old ≤ vec_len stock.new }
+    ensures ok { OnOk result (count ≤ vec_len stock.new) }
+{
+    while stock.len() < count {
+        stock.push(Bucket {
+            node: 0,
+            version: 0,
+            nonce: 0,
+            entries: Entries::new(alloc)?,
+        })?;
+    }
+    Ok(())
+}
+
+/// Makes the list long enough for so many items.
+pub(crate) fn widen<T>(list: &mut Vec<T>, count: usize) -> Result<(), NoMemory>
+where
+    T: Drop,
+    ensures items { list.new.items ≡ list.old.items }
+    ensures len { vec_len list.new ≡ vec_len list.old }
+    ensures kept { vec_capacity list.old ≤ vec_capacity list.new }
+    ensures ok { OnOk result (count ≤ vec_capacity list.new) }
+{
+    let more = count.saturating_sub(list.len());
+    list.reserve(more)?;
+    Ok(())
+}
+
+/// How much there has to be in each pool.
+#[derive(Clone, Copy, Debug)]
+pub(crate) struct Wanted {
+    pub dones: usize,
+    pub issues: usize,
+    pub others: usize,
+    pub orders: usize,
+    pub stock: usize,
+    pub values: usize,
+    pub rows: usize,
+    pub places: usize,
+}
+
+/// What one more arrival wants, after so many arrivals, Dones, write-backs and acknowledgements.
+pub(crate) fn wanted_now(p: &Params, arrivals: usize, dones: u64, issues: u32, acks: u32) -> Wanted
+    requires most { arrivals ≤ 65536 }
+    requires within { dones ≤ arrivals }
+    ensures { pools_in result ≡ wanted p.now arrivals dones issues acks }
+{
+    let under_way = arrivals - dones as usize + 1;
+    let due = (arrivals + 1).div_ceil(p.k() as usize);
+    let unissued = due.saturating_sub(issues as usize);
+    Wanted {
+        dones: under_way,
+        issues: unissued,
+        others: (1 + due).saturating_sub(acks as usize),
+        orders: unissued,
+        stock: (p.l() as usize + 1) * under_way,
+        values: under_way,
+        rows: arrivals + 1,
+        places: due,
+    }
+}
+
+/// Makes all pools at least so large. Where memory runs out, some are larger than before.
+pub(crate) fn top_up(
+    alloc: Global,
+    b: usize,
+    wanted: &Wanted,
+    session: &mut Record,
+    requests: &mut Requests,
+    fetches: &mut Vec<Fetch>,
+    places: &mut Vec<usize>,
+    values: &mut Vec<Block>,
+    orders: &mut Vec<Order>,
+    stock: &mut Vec<Bucket>,
+) -> Result<(), NoMemory>
+    requires each { All (λ value. length value ≡ b) values.old.items }
+    ensures history { session.new.history ≡ session.old.history }
+    ensures requests { requests.new ≡ record requests.old { spare = requests.new.spare } }
+    ensures rows { fetches.new.items ≡ fetches.old.items }
+    ensures row_count { vec_len fetches.new ≡ vec_len fetches.old }
+    ensures places { places.new.items ≡ places.old.items }
+    ensures each { All (λ value. length value ≡ b) values.new.items }
+    ensures grown { KeepsPools (pools_from session.old requests.old.spare (vec_capacity fetches.old) (vec_capacity places.old) (vec_len values.old) (vec_len orders.old) (vec_len stock.old))
+        (pools_from session.new requests.new.spare (vec_capacity fetches.new) (vec_capacity places.new) (vec_len values.new) (vec_len orders.new) (vec_len stock.new)) }
+    ensures ok { OnOk result (KeepsPools (pools_in wanted.now) (pools_from session.new requests.new.spare (vec_capacity fetches.new) (vec_capacity places.new) (vec_len values.new) (vec_len orders.new) (vec_len stock.new))) }
+{
+    session.reserve(wanted.dones, wanted.issues, wanted.others)?;
+    requests.reserve()?;
+    widen(fetches, wanted.rows)?;
+    widen(places, wanted.places)?;
+    fill_values(alloc, b, values, wanted.values)?;
+    fill_orders(alloc, orders, wanted.orders)?;
+    fill_stock(alloc, stock, wanted.stock)?;
+    Ok(())
+}
