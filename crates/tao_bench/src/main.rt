@@ -9,8 +9,10 @@ mod flush;
 mod frames;
 mod full_path;
 mod keystream;
+mod orders;
 mod sequence;
 mod slots;
+mod turns;
 mod xor;
 
 use crate::flush::Turn;
@@ -44,6 +46,12 @@ fn main(rt: HostRuntime) -> Result<(), anyhow::Error> {
             "flush-stash-300" => full_path::checksum(alloc, 524_288, 300, count)?,
             "flush-stash-3000" => full_path::checksum(alloc, 524_288, 3_000, count)?,
             "slots" => slots::checksum(alloc, count)?,
+            "turns" => turns::turns(&rt, alloc, count)?,
+            "mutex" => turns::mutex(&rt, count),
+            "glances" => turns::glances(&rt, alloc, count)?,
+            "loads" => turns::loads(count),
+            "orders" => orders::orders(&rt, alloc, count)?,
+            "plain-queue" => orders::plain(&rt, alloc, count)?,
             _ => bail!("no such command"),
         };
         println!(rt; "{command} {checksum}")?;

@@ -1,0 +1,7 @@
+pub mod OrderLemmas
+pub mod ViewLemmas
+pub mod Putting
+pub mod Taking
+pub mod Draining
+pub mod Passing
+pub mod BelowLemmas

@@ -1,0 +1,4 @@
+pub mod Works
+pub mod Rule
+pub mod Passes
+pub mod Below

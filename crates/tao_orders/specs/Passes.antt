@@ -1,0 +1,30 @@
+-- What clauses say of the queue and its passes.
+use Rattle.std.specs.Prelude.{◌≡◌, ℕ, ◌++◌, List, length}
+use Rattle.crossbeam_queue.specs.Passes.{view, IsPassOf, ruled_capacity}
+use Rattle.tao_orders.specs.declared.orders.Orders.{Orders}
+use Rattle.tao_orders.specs.declared.passes.PutPass.{PutPass}
+use Rattle.tao_orders.specs.declared.passes.TakePass.{TakePass}
+use Rattle.tao_orders.specs.declared.work.Work.{Work}
+
+-- how many pieces the queue may hold
+abbrev pub capacity_of : Orders → ℕ
+capacity_of orders = ruled_capacity orders.line
+
+-- they are passes of this queue
+abbrev pub IsPutPassOf : Orders → PutPass → Type 0
+IsPutPassOf orders pass = IsPassOf orders.line pass.pass
+
+abbrev pub IsTakePassOf : Orders → TakePass → Type 0
+IsTakePassOf orders pass = IsPassOf orders.line pass.pass
+
+-- what the pass put, in order
+abbrev pub put_of : PutPass → List Work
+put_of pass = (view pass.pass).put
+
+-- the versions that the pass took, in order, with 0 for a Stop
+abbrev pub took_of : TakePass → List ℕ
+took_of pass = (view pass.pass).took
+
+-- of what was put the last pieces, as many as the queue may hold, lay in it at one moment
+abbrev pub WasFull : Orders → List Work → Type 0
+WasFull orders put = (gone held : List Work) × (put ≡ gone ++ held) × (length held ≡ capacity_of orders)

@@ -1,0 +1,28 @@
+//! What a pass has done, and the rule over all of them.
+ghost use Rattle.std.specs.Prelude.{true, []};
+
+use crate::work::{Slip, Work};
+use crossbeam_queue::protocol::Protocol;
+use crossbeam_queue::{Pass, RuledArrayQueue};
+use std::collections::LinkedList;
+
+/// Whether a pass is the one that puts, what it put, and the versions that it took, with 0 for a Stop. No value of it is made.
+pub struct Hand {
+    pub puts: bool,
+    pub put: LinkedList<Work>,
+    pub took: LinkedList<u32>,
+}
+
+pub struct Rule;
+
+impl Protocol<Slip, Hand> for Rule {
+    ghost use Rattle.tao_orders.specs.Rule.{hand, InLine};
+
+    ghost holds = { InLine };
+
+    ghost first = { hand true [] [] };
+}
+
+pub type Line = RuledArrayQueue<Slip, Hand, Rule>;
+
+pub type LinePass = Pass<Slip, Hand>;

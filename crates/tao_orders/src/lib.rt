@@ -1,0 +1,16 @@
+//! Write-backs and the words that end their writers, first in first out: one pass puts, and any number of passes take.
+#![tactic(auto)]
+
+mod finish;
+mod hand;
+mod orders;
+mod passes;
+mod plays;
+#[cfg(test)]
+mod tests;
+mod work;
+
+pub use finish::Left;
+pub use orders::Orders;
+pub use passes::{PutPass, TakePass};
+pub use work::Work;

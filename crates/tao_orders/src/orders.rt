@@ -1,0 +1,96 @@
+//! The queue: what is put and what is taken.
+ghost use Rattle.std.specs.Prelude.{◌≡◌, ◌≤◌, ◌<◌, ◌∷◌, ◌++◌, [], IfOk, OnOk, OnErr, IfErr, IfSome, OnSome, IfNone, IsTrue, vec_capacity};
+ghost use Rattle.crossbeam_queue.specs.Passes.{ruled_capacity};
+ghost use Rattle.tao_orders.specs.Works.{number_of, IsNumbered, MayPut, EachOnce, IsNewest};
+
+use crate::hand::Line;
+use crate::passes::{PutPass, TakePass};
+use crate::plays::{Puts, Takers, Takes};
+use crate::work::{Slip, Work};
+use std::alloc::Global;
+use std::sync::Wait;
+use std::thread;
+use tao_base::NoMemory;
+
+/// A queue of work, of a fixed capacity.
+#[derive(Drop)]
+pub struct Orders {
+    pub(crate) line: Line,
+    // room for what is left at the end
+    pub(crate) room: Vec<Work>,
+    ghost empty: { room.items ≡ [] },
+    ghost room_is_kept: { ruled_capacity line ≤ vec_capacity room },
+}
+
+impl Orders {
+    ghost use Rattle.tao_orders.specs.Passes.{IsPutPassOf, IsTakePassOf, capacity_of, put_of, took_of, WasFull};
+
+    /// A queue that holds nothing, with the pass that puts and a pass that takes.
+    pub fn new(alloc: Global, capacity: usize) -> Result<(Orders, PutPass, TakePass), NoMemory>
+        requires { 0 < capacity }
+        ensures passes { IfOk result (λ r. IsPutPassOf r.0 r.1 × IsTakePassOf r.0 r.2) }
+        ensures nothing { IfOk result (λ r. (put_of r.1 ≡ []) × (took_of r.2 ≡ [])) }
+        ensures capacity { IfOk result (λ r. capacity_of r.0 ≡ capacity) }
+    {
+        let room = Vec::with_capacity(alloc, capacity)?;
+        let (line, mut pass) = Line::ruled(alloc, capacity)?;
+        let taking = line.another::<Takers>(&mut pass);
+        Ok((
+            Orders { line, room },
+            PutPass { pass, count: 0 },
+            TakePass { pass: taking },
+        ))
+    }
+
+    /// Puts a piece of work behind all others. It comes back only where the queue was full at one moment of the call.
+    pub fn put<R: Wait>(&self, rt: &R, pass: &mut PutPass, work: Work) -> Result<(), Work>
+        requires pass { IsPutPassOf self.now pass.old }
+        requires order { MayPut (put_of pass.old) work }
+        ensures pass { IsPutPassOf self.now pass.new }
+        ensures ok { OnOk result (put_of pass.new ≡ put_of pass.old ++ work ∷ []) }
+        ensures back { IfErr result (λ back. back ≡ work) }
+        ensures full { OnErr result ((put_of pass.new ≡ put_of pass.old) × WasFull self.now (put_of pass.old)) }
+    {
+        let number = pass.count;
+        wait_unless(rt, number < u64::MAX);
+        match self
+            .line
+            .push_as::<Puts, R>(rt, &mut pass.pass, Slip { number, work })
+        {
+            Ok(()) => {
+                pass.count = number + 1;
+                Ok(())
+            }
+            Err(slip) => Err(slip.work),
+        }
+    }
+
+    /// Takes the oldest piece of work. None only where the queue was empty at one moment of the call.
+    pub fn take<R: Wait>(&self, rt: &R, pass: &mut TakePass) -> Option<Work>
+        requires pass { IsTakePassOf self.now pass.old }
+        ensures pass { IsTakePassOf self.now pass.new }
+        ensures some { IfSome result (λ work. took_of pass.new ≡ took_of pass.old ++ number_of work ∷ []) }
+        ensures numbered { IfSome result IsNumbered }
+        ensures newest { IfSome result (λ work. IsNewest (took_of pass.old) (number_of work)) }
+        ensures none { IfNone result (took_of pass.new ≡ took_of pass.old) }
+        ensures once { EachOnce (took_of pass.new) }
+    {
+        match self.line.pop_as::<Takes, R>(rt, &mut pass.pass) {
+            Some(slip) => Some(slip.work),
+            None => None,
+        }
+    }
+}
+
+/// Returns only where the fact holds: one that always holds, but can't be shown.
+pub(crate) fn wait_unless<R: Wait>(rt: &R, holds: bool)
+    ensures { IsTrue holds }
+{
+    if holds {
+        return;
+    }
+    for _ in rt.forever() {
+        thread::yield_now();
+    }
+    unreachable!()
+}

@@ -1,0 +1,12 @@
+pub mod ListLemmas
+pub mod ShareLemmas
+pub mod ViewLemmas
+pub mod Keeping
+pub mod Drawing
+pub mod Looking
+pub mod Leaving
+pub mod Marking
+pub mod Splitting
+pub mod Joining
+pub mod Ending
+pub mod NoteLemmas

@@ -1,0 +1,8 @@
+pub mod Lists
+pub mod Histories
+pub mod Views
+pub mod Rule
+pub mod Steps
+pub mod Passes
+pub mod Lending
+pub mod Notes
