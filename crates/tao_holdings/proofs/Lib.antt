@@ -5,5 +5,4 @@ mod EvictedPath
 mod FoundCopy
 pub mod Exchanged
 mod PutValue
-mod Fetching
 mod Versioned

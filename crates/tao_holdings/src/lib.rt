@@ -9,9 +9,7 @@ mod swaps;
 mod takings;
 #[cfg(test)]
 mod tests;
-mod trial;
 mod versions;
 
 pub use holdings::Holdings;
 pub use laws::exchanged_back;
-pub use trial::real_fetch;

@@ -1,18 +1,17 @@
 -- An acknowledgement leaves all groups.
-use Rattle.std.proofs.Common.{◌≡◌, ℕ, zero, suc, ◌+◌, ◌-◌, ◌*◌, ◌<◌, ◌≤◌, Bool, true, false, not, ◌&&◌, ◌||◌, cond, List, [], ◌∷◌, ◌++◌, length, take, map, reverse, refl, sym, ap, ap₂, ◌∙◌, subst, arith, tests, inl, inr, ◌⊎◌, nat_eq, nat_lt, get_or}
+use Rattle.std.proofs.Common.{◌≡◌, ℕ, zero, suc, ◌+◌, ◌-◌, ◌*◌, ◌<◌, ◌≤◌, Bool, true, false, not, ◌&&◌, ◌||◌, cond, List, [], ◌∷◌, ◌++◌, length, take, reverse, refl, sym, ap, ap₂, ◌∙◌, subst, arith, inl, inr, ◌⊎◌, nat_eq, nat_lt, get_or}
 use Rattle.std.specs.Prelude.{nat_le, slice_set, slice_index, if◌then◌else◌}
 use Rattle.std.specs.List.{list_any}
 use Rattle.std.proofs.lemmas.Bool.{cases_lt, cases_eq, ne_eqb, eq-eqb, true≢false, lt-leb, le-leb, lt-ltb, le-ltb}
-use Rattle.std.proofs.lemmas.List.{take_more, length-map}
+use Rattle.std.proofs.lemmas.List.{take_more}
 use Rattle.std.proofs.lemmas.List.Folds.{list_any-append}
 use Rattle.tao_base.specs.declared.session.Event.{Event}
-use Rattle.tao_base.specs.declared.session.Event.TheVariants.{Arrive, Done, Issue, Acked, Fault}
+use Rattle.tao_base.specs.declared.session.Event.TheVariants.{Issue, Acked}
 use Rattle.tao_base.specs.declared.storage.Bucket.{Bucket}
 use Rattle.tao_base.specs.declared.storage.Entry.{Entry}
 use Rattle.tao_base.specs.Session.{Opening, History}
 use Rattle.tao_base.specs.Limits.{Shape}
-use Rattle.tao_model.specs.Events.{arrived, dones, issues, acks, is_acked, has_fault}
-use Rattle.tao_model.specs.Residence.{is_issued, is_resident}
+use Rattle.tao_model.specs.Events.{arrived, dones, issues, acks, has_fault}
 use Rattle.tao_model.specs.Trace.{nodes_in}
 use Rattle.tao_model.specs.WholeRecords.{IsAt}
 use Rattle.tao_model.specs.Lawful.{FollowsLawfully, MayFollow}
@@ -23,7 +22,7 @@ use Rattle.tao_held.proofs.HeldSteps.{away_is_empty}
 use Rattle.tao_tables.specs.Flags.{TellsFlags, IsFree}
 use Rattle.tao_tables.specs.Positions.{TellsPositions}
 use Rattle.tao_tables.specs.WriteBacks.{IsIssueAt}
-use Rattle.tao_tables.specs.Pools.{Pools, HasPools, AreCounts, AckedInRoom}
+use Rattle.tao_tables.specs.Pools.{HasPools, AreCounts, AckedInRoom}
 use Rattle.tao_tables.proofs.CountedWork.{acks_are_counted}
 use Rattle.tao_tables.proofs.KeptAnswers.{served_else}
 use Rattle.tao_tables.proofs.KeptFlags.{flags_are_told}
@@ -37,7 +36,7 @@ use Rattle.tao_record.specs.State.{RecordState, added}
 use Rattle.tao_requests.proofs.Followed.{follows_further}
 use Rattle.tao_holdings.specs.Holding.{HoldingsState, is_held, contents_in, count_in, touch_in, without, left_by, may_go}
 use Rattle.tao_processor.specs.Steps.{Forgets}
-use Rattle.tao_processor.specs.Groups.{Parts, IsProcessor, KeepsHoldings, NodesAre, pools_of}
+use Rattle.tao_processor.specs.Groups.{Parts, IsProcessor, NodesAre, pools_of}
 use Rattle.tao_processor.proofs.Kept.{follows_more, nodes_with}
 
 -- ---- one node more leaves

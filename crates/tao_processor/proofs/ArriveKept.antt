@@ -1,16 +1,15 @@
 -- An arrival leaves all groups.
-use Rattle.std.proofs.Common.{◌≡◌, ℕ, ◌+◌, ◌-◌, ◌^◌, ◌%◌, ◌<◌, ◌≤◌, Bool, true, false, not, ◌&&◌, List, [], ◌∷◌, ◌++◌, length, reverse, refl, sym, ap, ap₂, ◌∙◌, subst, arith}
+use Rattle.std.proofs.Common.{◌≡◌, ℕ, ◌+◌, ◌-◌, ◌^◌, ◌<◌, ◌≤◌, Bool, true, false, not, ◌&&◌, List, [], ◌∷◌, ◌++◌, length, reverse, refl, sym, ap, ap₂, ◌∙◌, subst, arith}
 use Rattle.std.specs.Prelude.{slice_index}
-use Rattle.std.specs.List.{slice_index_or}
 use Rattle.std.proofs.lemmas.Bool.{eq-eqb, true≢false}
 use Rattle.std.proofs.lemmas.List.{get_or_append_left, get_or_push}
 use Rattle.tao_base.specs.declared.calls.Op.{Op}
 use Rattle.tao_base.specs.declared.calls.Op.TheVariants.{Read, Write, Pad}
 use Rattle.tao_base.specs.declared.session.Event.{Event}
-use Rattle.tao_base.specs.declared.session.Event.TheVariants.{Arrive, Done, Issue, Acked, Fault}
+use Rattle.tao_base.specs.declared.session.Event.TheVariants.{Arrive}
 use Rattle.tao_base.specs.Session.{Opening, History}
 use Rattle.tao_base.specs.Limits.{Shape, session_limit}
-use Rattle.tao_base.specs.Tree.{is_on_path, leaf_of}
+use Rattle.tao_base.specs.Tree.{leaf_of}
 use Rattle.tao_model.specs.Events.{arrived, dones, issues, acks, is_done, has_fault, names}
 use Rattle.tao_model.specs.Requests.{real_now, fetches, fetched_leaf, position}
 use Rattle.tao_model.specs.Lawful.{FollowsLawfully, MayFollow, IsInRange}
@@ -19,11 +18,9 @@ use Rattle.tao_model.proofs.OneMoreEvent.{one_more_arrive}
 use Rattle.tao_model.proofs.Stays.{newest_first}
 use Rattle.tao_laws.proofs.HandedWords.{was_quiet, leaf_is_position}
 use Rattle.tao_held.proofs.Counts.{count_within}
-use Rattle.tao_tables.specs.Tables.{cover_count}
 use Rattle.tao_tables.specs.Rows.{TellsRows, AddsRow}
 use Rattle.tao_tables.specs.Positions.{TellsPositions}
 use Rattle.tao_tables.specs.Pools.{Pools, HasPools, KeepsPools, AreCounts, ArrivesInRoom}
-use Rattle.tao_tables.proofs.CountedWork.{arrived_within}
 use Rattle.tao_tables.proofs.KeptAnswers.{served_else}
 use Rattle.tao_tables.proofs.KeptFlags.{flags_are_told}
 use Rattle.tao_tables.proofs.KeptRows.{rows_are_told, positions_are_told}

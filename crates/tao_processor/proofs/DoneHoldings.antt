@@ -1,5 +1,5 @@
 -- What a Done makes of holdings and requests.
-use Rattle.std.proofs.Common.{◌≡◌, ℕ, ◌+◌, ◌-◌, ◌<◌, ◌≤◌, Bool, true, false, not, ◌||◌, ◌&&◌, cond, List, [], ◌∷◌, ◌++◌, reverse, Option, Some, None, All, set, refl, sym, ap, ap₂, ◌∙◌, subst, arith, nat_eq}
+use Rattle.std.proofs.Common.{◌≡◌, ℕ, ◌+◌, ◌<◌, Bool, true, false, cond, List, [], ◌∷◌, ◌++◌, reverse, Option, Some, None, All, refl, sym, ap, ap₂, ◌∙◌, subst, nat_eq}
 use Rattle.std.proofs.Math.Path.{fun_ext}
 use Rattle.std.proofs.lemmas.Bool.{true≢false, eqb-true}
 use Rattle.std.proofs.lemmas.List.Elements.{All-nil}
@@ -8,32 +8,31 @@ use Rattle.std.specs.List.{slice_index_or}
 use Rattle.tao_base.specs.declared.calls.Op.{Op}
 use Rattle.tao_base.specs.declared.calls.Op.TheVariants.{Read, Write, Pad}
 use Rattle.tao_base.specs.declared.session.Event.{Event}
-use Rattle.tao_base.specs.declared.session.Event.TheVariants.{Arrive, Done, Issue, Acked, Fault}
+use Rattle.tao_base.specs.declared.session.Event.TheVariants.{Done}
 use Rattle.tao_base.specs.declared.storage.Bucket.{Bucket}
 use Rattle.tao_base.specs.declared.storage.Entry.{Entry}
-use Rattle.tao_base.specs.Session.{Opening, History}
+use Rattle.tao_base.specs.Session.{Opening}
 use Rattle.tao_base.specs.Limits.{Shape}
-use Rattle.tao_base.specs.Tree.{is_on_path, leaf_of}
+use Rattle.tao_base.specs.Tree.{leaf_of}
 use Rattle.tao_model.specs.Events.{arrived, dones, is_done, names, word_of}
 use Rattle.tao_model.specs.Requests.{is_real, fetched_leaf, position}
-use Rattle.tao_model.specs.Residence.{is_resident}
 use Rattle.tao_model.specs.Placement.{entries_at}
-use Rattle.tao_model.specs.Lawful.{FollowsLawfully, MayFollow, IsInForm}
+use Rattle.tao_model.specs.Lawful.{FollowsLawfully, IsInForm}
 use Rattle.tao_model.specs.OneMore.{with_one_more}
 use Rattle.tao_model.proofs.Stays.{newest_first}
-use Rattle.tao_flush.specs.Blocks.{IsEntry, IsStash}
-use Rattle.tao_held.specs.Steps.{take_in, with_path, found_copy, value_or_zeros, put, evict, after_real_fetch}
+use Rattle.tao_flush.specs.Blocks.{IsEntry}
+use Rattle.tao_held.specs.Steps.{take_in, with_path, found_copy, value_or_zeros, put, evict}
 use Rattle.tao_held.specs.Held.{held, after_fetch, found_in, block_on, value_since}
 use Rattle.tao_held.specs.HeldLaws.{AreIdsBelow}
 use Rattle.tao_held.proofs.Blocks as blocks
 use Rattle.tao_tables.specs.Tables.{TellsNodes, MovesTables}
-use Rattle.tao_tables.specs.Answers.{AreServed, SettlesRight}
+use Rattle.tao_tables.specs.Answers.{SettlesRight}
 use Rattle.tao_tables.specs.Positions.{TellsPositions, words_done}
 use Rattle.tao_tables.proofs.MovedTables.{tells_done}
 use Rattle.tao_tables.proofs.ServedAnswers.{served_real}
 use Rattle.tao_requests.specs.declared.request.Request.{Request}
 use Rattle.tao_requests.specs.State.{RequestsState, request_at, block_of, op_block}
-use Rattle.tao_requests.specs.Settling.{settled, settled_from, value_from, KeepsAnswers}
+use Rattle.tao_requests.specs.Settling.{settled, value_from, KeepsAnswers}
 use Rattle.tao_requests.specs.Laws.{Follows}
 use Rattle.tao_requests.proofs.Followed.{following, on_is, follows_real, follows_fake}
 use Rattle.tao_holdings.specs.Holding.{HoldingsState, is_held, contents_in, entries_of, count_in, touch_in, version_in, leaf_by, one_less, touched, AreForms}

@@ -1,24 +1,21 @@
 -- A Done leaves all groups.
-use Rattle.std.proofs.Common.{◌≡◌, ℕ, ◌+◌, ◌-◌, ◌*◌, ◌^◌, ◌<◌, ◌≤◌, Bool, true, false, not, List, [], ◌∷◌, ◌++◌, length, reverse, All, refl, sym, ap, ap₂, ◌∙◌, subst, arith}
+use Rattle.std.proofs.Common.{◌≡◌, ℕ, ◌+◌, ◌-◌, ◌≤◌, Bool, true, false, List, [], ◌∷◌, ◌++◌, length, reverse, All, refl, sym, ap, ap₂, ◌∙◌, subst, arith}
 use Rattle.std.specs.Prelude.{slice_set}
 use Rattle.tao_base.specs.declared.session.Event.{Event}
-use Rattle.tao_base.specs.declared.session.Event.TheVariants.{Arrive, Done, Issue, Acked, Fault}
+use Rattle.tao_base.specs.declared.session.Event.TheVariants.{Done}
 use Rattle.tao_base.specs.declared.storage.Bucket.{Bucket}
-use Rattle.tao_base.specs.declared.storage.Entry.{Entry}
-use Rattle.tao_base.specs.Session.{Opening, History}
+use Rattle.tao_base.specs.Session.{Opening}
 use Rattle.tao_base.specs.Limits.{Shape}
-use Rattle.tao_base.specs.Tree.{is_on_path}
-use Rattle.tao_model.specs.Events.{arrived, dones, issues, acks, is_done, word_of}
+use Rattle.tao_model.specs.Events.{arrived, dones, issues, acks, word_of}
 use Rattle.tao_model.specs.Requests.{fetched_leaf}
 use Rattle.tao_model.specs.Placement.{entries_at}
-use Rattle.tao_model.specs.Lawful.{FollowsLawfully}
 use Rattle.tao_model.specs.OneMore.{with_one_more}
 use Rattle.tao_model.proofs.Stays.{newest_first}
 use Rattle.tao_held.specs.Held.{WritesHeld}
 use Rattle.tao_held.specs.Steps.{take_in, with_path}
 use Rattle.tao_tables.specs.WriteBacks.{PutsPath}
 use Rattle.tao_tables.specs.Flags.{TellsFlags}
-use Rattle.tao_tables.specs.Pools.{Pools, HasPools, KeepsPools, DoneInRoom}
+use Rattle.tao_tables.specs.Pools.{Pools, HasPools, KeepsPools}
 use Rattle.tao_tables.proofs.KeptFlags.{flags_are_told}
 use Rattle.tao_tables.proofs.KeptRows.{rows_are_told}
 use Rattle.tao_tables.proofs.PoolRoom.{room_grows}
@@ -26,7 +23,7 @@ use Rattle.tao_record.specs.State.{RecordState, added}
 use Rattle.tao_requests.specs.State.{RequestsState}
 use Rattle.tao_holdings.specs.Holding.{HoldingsState, is_held, contents_in, count_in, touch_in, AreForms, one_less, touched}
 use Rattle.tao_processor.specs.Steps.{Finishes, LeavesBlocks, settled_where, is_for_block, found_by}
-use Rattle.tao_processor.specs.Groups.{Parts, IsProcessor, KeepsRecord, KeepsHoldings, KeepsRequests, pools_of}
+use Rattle.tao_processor.specs.Groups.{Parts, IsProcessor, KeepsHoldings, KeepsRequests, pools_of}
 use Rattle.tao_processor.proofs.DoneHoldings.{DoesFetch, done_holdings}
 use Rattle.tao_processor.proofs.DoneReady.{IsReadyForDone}
 use Rattle.tao_tables.proofs.KeptWrites.{writes_are_told}

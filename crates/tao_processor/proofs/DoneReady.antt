@@ -1,43 +1,38 @@
 -- What a Done finds, and that it leaves all groups.
-use Rattle.std.proofs.Common.{◌≡◌, ℕ, ◌+◌, ◌-◌, ◌*◌, ◌^◌, ◌<◌, ◌≤◌, Bool, true, false, not, ◌&&◌, ◌||◌, cond, List, [], ◌∷◌, ◌++◌, length, filter, map, reverse, All, refl, sym, ap, ◌∙◌, subst, arith, nat_eq}
-use Rattle.std.proofs.Math.Nat.{mod-lt}
+use Rattle.std.proofs.Common.{◌≡◌, ℕ, ◌+◌, ◌-◌, ◌*◌, ◌^◌, ◌<◌, ◌≤◌, Bool, true, false, not, ◌&&◌, ◌||◌, cond, List, [], ◌∷◌, length, filter, reverse, All, refl, sym, ap, ◌∙◌, subst, arith}
 use Rattle.std.proofs.Math.Pow.{pow_pos}
 use Rattle.std.proofs.lemmas.Bool.{and_from}
 use Rattle.std.proofs.lemmas.Nat.{mul-le}
 use Rattle.std.proofs.lemmas.List.{length-map, get_or_read_under}
 use Rattle.std.proofs.lemmas.List.Elements.{filter_agree}
 use Rattle.std.proofs.lemmas.List.FromFn.{length-map-range_with_len}
-use Rattle.std.specs.Prelude.{slice_set}
-use Rattle.std.specs.List.{slice_index_or, range_with_len}
+use Rattle.std.specs.List.{slice_index_or}
 use Rattle.std.specs.List.Sorted.{IsStrictlyIncreasing}
 use Rattle.tao_base.specs.declared.session.Event.{Event}
-use Rattle.tao_base.specs.declared.session.Event.TheVariants.{Arrive, Done, Issue, Acked, Fault}
+use Rattle.tao_base.specs.declared.session.Event.TheVariants.{Done}
 use Rattle.tao_base.specs.declared.storage.Bucket.{Bucket}
-use Rattle.tao_base.specs.declared.storage.Entry.{Entry}
 use Rattle.tao_base.specs.Session.{Opening, History}
-use Rattle.tao_base.specs.Limits.{Shape, IsShape, session_limit}
+use Rattle.tao_base.specs.Limits.{Shape}
 use Rattle.tao_base.specs.Tree.{is_on_path, leaf_of, path, node_at}
 use Rattle.tao_model.specs.Events.{arrived, dones, issues, acks, is_done, is_pad_op, has_fault, word_of}
 use Rattle.tao_model.specs.Requests.{is_real, fetches, fetched_leaf}
 use Rattle.tao_model.specs.Residence.{is_resident}
 use Rattle.tao_model.specs.Trace.{nodes_in}
-use Rattle.tao_model.specs.Lawful.{FollowsLawfully, MayFollow, MayBeDone, OwesNone, IsInForm, touched_after}
+use Rattle.tao_model.specs.Lawful.{FollowsLawfully, MayFollow, IsInForm, touched_after}
 use Rattle.tao_model.specs.OneMore.{with_one_more}
-use Rattle.tao_model.proofs.Stays.{newest_first}
 use Rattle.tao_held.specs.Held.{block_on}
-use Rattle.tao_held.specs.Counted.{count_below}
 use Rattle.tao_held.proofs.Counts.{count_less}
 use Rattle.tao_held.proofs.Blocks as blocks
 use Rattle.tao_tables.specs.Tables.{cover_count}
 use Rattle.tao_tables.specs.WriteBacks.{IsRecentList}
 use Rattle.tao_tables.specs.Counted.{CountsWork}
-use Rattle.tao_tables.specs.Pools.{Pools, HasPools, AreCounts, DoneInRoom}
+use Rattle.tao_tables.specs.Pools.{AreCounts, DoneInRoom}
 use Rattle.tao_tables.proofs.CountedWork.{work_is_counted}
 use Rattle.tao_tables.proofs.KeptFlags.{flags_are_told}
 use Rattle.tao_tables.proofs.PoolRoom.{counts_are_known, room_done}
-use Rattle.tao_record.specs.State.{IsBucketOf, AreBucketsOf, done_len, RecordState, added}
+use Rattle.tao_record.specs.State.{AreBucketsOf, done_len}
 use Rattle.tao_requests.specs.declared.request.Request.{Request}
-use Rattle.tao_requests.specs.State.{RequestsState, request_at, block_of, IsUnderWay}
+use Rattle.tao_requests.specs.State.{request_at, block_of, IsUnderWay}
 use Rattle.tao_requests.proofs.Followed.{following, as_many, on_is, follows_real}
 use Rattle.tao_requests.proofs.Arrivals.{no_pad}
 use Rattle.tao_sequence.specs.Release.{is_done_in}

@@ -1,7 +1,6 @@
 -- A write-back leaves all groups.
-use Rattle.std.proofs.Common.{◌≡◌, ℕ, zero, suc, ◌+◌, ◌-◌, ◌*◌, ◌^◌, ◌<◌, ◌≤◌, Bool, true, false, not, ◌&&◌, ◌||◌, cond, List, [], ◌∷◌, ◌++◌, length, filter, map, reverse, All, Some, None, is_some, refl, sym, ap, ap₂, ◌∙◌, subst, arith, nat_eq, nat_lt, get_or, zero-add}
-use Rattle.std.specs.Prelude.{slice_index}
-use Rattle.std.specs.List.{list_any, range_with_len, slice_index_or}
+use Rattle.std.proofs.Common.{◌≡◌, ℕ, ◌+◌, ◌-◌, ◌*◌, ◌^◌, ◌<◌, ◌≤◌, Bool, true, false, ◌||◌, cond, List, [], ◌∷◌, ◌++◌, length, filter, map, reverse, All, Some, is_some, refl, sym, ap, ◌∙◌, subst, arith, nat_eq, nat_lt, get_or}
+use Rattle.std.specs.List.{list_any, range_with_len}
 use Rattle.std.specs.List.Sorted.{IsStrictlyIncreasing}
 use Rattle.std.proofs.Math.Pow.{pow_mono}
 use Rattle.std.proofs.lemmas.Nat.{mul-le}
@@ -9,19 +8,19 @@ use Rattle.std.proofs.lemmas.Bool.{eq-eqb, ltb-true}
 use Rattle.std.proofs.lemmas.List.{length-map, get_or-map, same_lists}
 use Rattle.std.proofs.lemmas.List.Elements.{All-nil, All-cons, All-map}
 use Rattle.std.proofs.lemmas.List.Folds.{list_any_at}
-use Rattle.std.proofs.lemmas.List.FromFn.{get_or-range_with_len, get_or-map-range_with_len, length-map-range_with_len}
+use Rattle.std.proofs.lemmas.List.FromFn.{get_or-range_with_len}
 use Rattle.std.proofs.lemmas.List.FromFn.{length-range_with_len}
 use Rattle.tao_base.specs.declared.session.Event.{Event}
 use Rattle.tao_base.specs.declared.session.Event.TheVariants.{Arrive, Done, Issue, Acked, Fault}
 use Rattle.tao_base.specs.declared.storage.Bucket.{Bucket}
 use Rattle.tao_base.specs.declared.storage.Entry.{Entry}
 use Rattle.tao_base.specs.Session.{Opening, History}
-use Rattle.tao_base.specs.Limits.{Shape, IsShape, session_limit}
+use Rattle.tao_base.specs.Limits.{Shape, session_limit}
 use Rattle.tao_base.specs.Tree.{node_count}
 use Rattle.tao_model.specs.Events.{arrived, dones, issues, acks, buckets_issued, has_fault}
-use Rattle.tao_model.specs.Residence.{last_touch, bucket_of, is_resident, newest_version}
+use Rattle.tao_model.specs.Residence.{last_touch, bucket_of}
 use Rattle.tao_model.specs.Trace.{nodes_in}
-use Rattle.tao_model.specs.Lawful.{FollowsLawfully, MayFollow, MayBeIssued, IsInForm, touched_after}
+use Rattle.tao_model.specs.Lawful.{FollowsLawfully, MayBeIssued, IsInForm, touched_after}
 use Rattle.tao_model.specs.OneMore.{with_one_more}
 use Rattle.tao_model.proofs.NewestWrites.{newest_is_greatest}
 use Rattle.tao_model.proofs.Stays.{newest_first}
@@ -45,8 +44,8 @@ use Rattle.tao_record.specs.State.{RecordState, added, issue_len}
 use Rattle.tao_requests.proofs.Followed.{follows_further}
 use Rattle.tao_holdings.specs.Holding.{HoldingsState, is_held, contents_in, count_in, touch_in, version_in, written_at}
 use Rattle.tao_holdings.specs.Lists.{with_entries_of}
-use Rattle.tao_processor.specs.Steps.{IsNodeOf, IsEmpty, stamp_at, stamps, written_of, HoldsAgain}
-use Rattle.tao_processor.specs.Groups.{Parts, IsProcessor, KeepsHoldings, NodesAre, pools_of}
+use Rattle.tao_processor.specs.Steps.{IsNodeOf, IsEmpty, stamps, written_of, HoldsAgain}
+use Rattle.tao_processor.specs.Groups.{Parts, IsProcessor, NodesAre, pools_of}
 use Rattle.tao_processor.proofs.Kept.{follows_more}
 use Rattle.tao_processor.proofs.DoneReady.{filter_shorter}
 use Rattle.tao_processor.proofs.WrittenBack.{stamps_len, stamp_there, all_stamps, stamps_nodes, nodes_stay}

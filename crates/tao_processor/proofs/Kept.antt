@@ -1,5 +1,5 @@
 -- What one more event leaves of the groups.
-use Rattle.std.proofs.Common.{◌≡◌, ℕ, Bool, true, false, List, [], ◌∷◌, ◌++◌, reverse, refl, sym, ap, ◌∙◌, subst, ◌||◌}
+use Rattle.std.proofs.Common.{◌≡◌, Bool, true, false, List, [], ◌∷◌, ◌++◌, reverse, refl, sym, ap, ◌∙◌, subst, ◌||◌}
 use Rattle.std.proofs.lemmas.List.{reverse-append, reverse-reverse}
 use Rattle.std.proofs.lemmas.List.Folds.{list_any-append}
 use Rattle.tao_base.specs.declared.session.Cause.{Cause}
@@ -11,14 +11,14 @@ use Rattle.tao_model.specs.Events.{has_fault, arrived, dones, issues, acks}
 use Rattle.tao_model.specs.Lawful.{FollowsLawfully, MayFollow}
 use Rattle.tao_model.specs.OneMore.{with_one_more}
 use Rattle.tao_model.proofs.Stays.{newest_first}
-use Rattle.tao_held.specs.Held.{held, IsOfProxy, WritesHeld}
+use Rattle.tao_held.specs.Held.{held, WritesHeld}
 use Rattle.tao_tables.specs.Tables.{TellsNodes}
 use Rattle.tao_holdings.specs.Holding.{HoldingsState, is_held, contents_in, count_in, touch_in, version_in}
-use Rattle.tao_tables.specs.Pools.{Pools, HasPools}
+use Rattle.tao_tables.specs.Pools.{HasPools}
 use Rattle.tao_record.specs.State as rec
 use Rattle.tao_record.specs.State.{RecordState, added}
 use Rattle.tao_requests.proofs.Followed.{follows_further}
-use Rattle.tao_processor.specs.Groups.{Parts, IsProcessor, KeepsRecord, KeepsHoldings, KeepsRequests, NodesAre, pools_of}
+use Rattle.tao_processor.specs.Groups.{Parts, IsProcessor, KeepsRecord, NodesAre, pools_of}
 use Rattle.tao_tables.proofs.KeptFlags.{flags_are_told}
 use Rattle.tao_tables.proofs.KeptRows.{rows_are_told, positions_are_told}
 use Rattle.tao_tables.proofs.KeptAnswers.{served_else}

@@ -8,5 +8,4 @@ pub mod IssueKept
 pub mod Kept
 pub mod Opened
 pub mod ReserveKept
-pub mod TouchedNodes
 pub mod WrittenBack

@@ -1,5 +1,5 @@
 -- A processor that opens has all groups.
-use Rattle.std.proofs.Common.{◌≡◌, ℕ, ◌+◌, ◌*◌, ◌^◌, ◌<◌, ◌≤◌, Bool, true, false, ◌&&◌, ◌-◌, cond, List, [], ◌∷◌, map, nat_lt, length, replicate, All, Option, None, is_some, refl, sym, ap, ◌∙◌, subst, arith, nat_eq, get_or, inl, inr, ◌⊎◌}
+use Rattle.std.proofs.Common.{◌≡◌, ℕ, ◌+◌, ◌*◌, ◌<◌, ◌≤◌, Bool, true, false, ◌&&◌, ◌-◌, cond, List, [], ◌∷◌, map, nat_lt, length, replicate, All, None, is_some, refl, sym, ap, ◌∙◌, subst, arith, nat_eq, get_or, inl, inr, ◌⊎◌}
 use Rattle.std.specs.Prelude.{slice_index}
 use Rattle.std.specs.List.{slice_index_or, range_with_len}
 use Rattle.std.proofs.lemmas.List.Elements.{All-map}
@@ -10,7 +10,7 @@ use Rattle.std.proofs.Math.ListN.{get_or-eq_default}
 use Rattle.std.proofs.lemmas.List.Elements.{All-nil}
 use Rattle.tao_base.specs.declared.storage.Bucket.{Bucket}
 use Rattle.tao_base.specs.declared.storage.Entry.{Entry}
-use Rattle.tao_base.specs.Session.{Opening, History}
+use Rattle.tao_base.specs.Session.{Opening}
 use Rattle.tao_base.specs.Limits.{Shape, IsShape, session_limit}
 use Rattle.tao_base.specs.Tree.{node_count, is_on_path, leaf_of}
 use Rattle.tao_flush.specs.Blocks.{AreNodeEntries}
@@ -35,7 +35,7 @@ use Rattle.tao_requests.specs.State.{RequestsState, fresh}
 use Rattle.tao_requests.proofs.Followed.{follows_none}
 use Rattle.tao_holdings.specs.Holding.{HoldingsState, is_held, contents_in, entries_of, count_in, touch_in, version_in, leaf_by, none_held}
 use Rattle.tao_processor.specs.Steps.{AreEmptyBuckets}
-use Rattle.tao_processor.specs.Groups.{Parts, IsProcessor, NodesAre, row_leaf, row_word}
+use Rattle.tao_processor.specs.Groups.{IsProcessor, row_leaf, row_word}
 
 first_nodes : (contents : ℕ → List Entry) (ns : List ℕ) → nodes_in (map (first_bucket contents) ns) ≡ ns
 first_nodes contents [] = refl

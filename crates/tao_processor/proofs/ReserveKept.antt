@@ -1,8 +1,8 @@
 -- Larger pools leave all groups.
-use Rattle.std.proofs.Common.{◌≡◌, ℕ, ◌+◌, ◌-◌, ◌*◌, ◌<◌, ◌≤◌, Bool, true, List, length, reverse, All, refl, sym, ap, ◌∙◌, subst, arith}
+use Rattle.std.proofs.Common.{◌≡◌, ℕ, ◌≤◌, Bool, true, List, length, reverse, All, sym, subst, arith}
 use Rattle.tao_base.specs.declared.session.Event.{Event}
 use Rattle.tao_base.specs.Session.{Opening, History}
-use Rattle.tao_base.specs.Limits.{Shape, session_limit}
+use Rattle.tao_base.specs.Limits.{session_limit}
 use Rattle.tao_model.specs.Events.{arrived, dones, issues, acks}
 use Rattle.tao_tables.specs.Counted.{CountsWork}
 use Rattle.tao_tables.specs.Pools.{Pools, HasPools, KeepsPools, wanted}

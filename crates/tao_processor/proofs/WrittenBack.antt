@@ -1,12 +1,12 @@
 -- Buckets that are stamped for a write-back.
-use Rattle.std.proofs.Common.{◌≡◌, ℕ, zero, suc, ◌+◌, ◌-◌, ◌<◌, ◌≤◌, true, List, [], ◌∷◌, ◌++◌, length, take, drop, map, All, set, get_or, refl, sym, ap, ap₂, ◌∙◌, subst, arith, zero-add}
+use Rattle.std.proofs.Common.{◌≡◌, ℕ, ◌+◌, ◌<◌, ◌≤◌, List, [], ◌∷◌, ◌++◌, length, take, drop, map, All, set, get_or, refl, sym, ap, ap₂, ◌∙◌, subst, arith, zero-add}
 use Rattle.std.specs.Prelude.{slice_index}
 use Rattle.std.specs.List.{slice_index_or, range_with_len}
 use Rattle.std.specs.List.Sorted.{IsStrictlyIncreasing}
 use Rattle.std.proofs.lemmas.List.{length-map, get_or-map, same_lists, take_more_set, get_or-set_other, get_or_default, length-set, take_all, append-nil}
 use Rattle.std.proofs.lemmas.List.{drop_all}
-use Rattle.std.proofs.lemmas.List.Elements.{All-append, All-drop, All-map, All-nil}
-use Rattle.std.proofs.lemmas.List.FromFn.{get_or-map-range_with_len, get_or-range_with_len, length-map-range_with_len, map-range_with_len_more}
+use Rattle.std.proofs.lemmas.List.Elements.{All-append, All-nil}
+use Rattle.std.proofs.lemmas.List.FromFn.{get_or-map-range_with_len, length-map-range_with_len, map-range_with_len_more}
 use Rattle.tao_base.specs.declared.storage.Bucket.{Bucket}
 use Rattle.tao_base.specs.declared.storage.Entry.{Entry}
 use Rattle.tao_base.specs.Limits.{Shape}
@@ -15,7 +15,7 @@ use Rattle.tao_model.specs.Trace.{nodes_in}
 use Rattle.tao_holdings.specs.Holding.{HoldingsState, is_held, contents_in}
 use Rattle.tao_holdings.specs.Lists.{with_entries_of, with_buckets}
 use Rattle.tao_holdings.proofs.Exchanged.{exchanged_back}
-use Rattle.tao_processor.specs.Steps.{IsNodeOf, IsEmpty, stamp_at, stamps, written_of, HoldsAgain}
+use Rattle.tao_processor.specs.Steps.{IsNodeOf, IsEmpty, stamp_at, stamps, HoldsAgain}
 
 pub stamps_len : (nodes : List ℕ) (v n : ℕ) → length (stamps nodes v n) ≡ length nodes
 stamps_len nodes v n = length-map-range_with_len (stamp_at nodes v n) 0 (length nodes)

@@ -1,4 +1,4 @@
-//! The proxy's state machine, one event a call: each field is a function of the record.
+//! The proxy's state machine, one event a call: all its tables are functions of the record.
 #![tactic(auto)]
 
 mod fetches;
@@ -7,7 +7,6 @@ mod forgetting;
 mod opening;
 mod processor;
 mod topping;
-mod touching;
 mod writing;
 
 pub use processor::Processor;

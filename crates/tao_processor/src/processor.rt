@@ -10,7 +10,6 @@ use crate::finishing::finish;
 use crate::forgetting::{forget_all, issued};
 use crate::opening::empty_buckets;
 use crate::topping::{top_up, wanted_now};
-use crate::touching::touch_path;
 use crate::writing::write_back;
 use std::alloc::Global;
 use std::marker::Model;
@@ -19,6 +18,7 @@ use tao_holdings::Holdings;
 use tao_record::Record;
 use tao_requests::Requests;
 use tao_sequence::Sequence;
+use tao_tables::touch_path;
 
 /// All that the proxy keeps but its tape.
 #[derive(Drop)]

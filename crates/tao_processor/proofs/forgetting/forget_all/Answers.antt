@@ -1,4 +1,4 @@
-use Rattle.std.proofs.Common.{refl, sym, ap, ◌∙◌, subst, arith, List, ℕ, take, length, get_or}
+use Rattle.std.proofs.Common.{sym, subst, arith, List, ℕ, get_or}
 use Rattle.std.proofs.lemmas.List.{length-map, take_all, get_or-map}
 use Rattle.tao_base.specs.declared.storage.Bucket.{Bucket}
 use Rattle.tao_model.specs.Trace.{nodes_in}

@@ -1,4 +1,4 @@
-use Rattle.std.proofs.Common.{◌≡◌, ◌-◌, ◌≤◌, length, vec_len, All}
+use Rattle.std.proofs.Common.{◌-◌, ◌≤◌, vec_len}
 use Rattle.tao_processor.proofs.topping.fill_stock.Given as goal
 
 abbrev pub invariant-loop-alloc : goal.invariant-loop-alloc

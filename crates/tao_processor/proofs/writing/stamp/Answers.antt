@@ -1,8 +1,4 @@
-use Rattle.std.proofs.Common.{◌≡◌, ℕ, List, take, sym, ap, ◌∙◌, arith, [], refl, zero-add}
-use Rattle.std.proofs.lemmas.List.{take_more_set, get_or-set_other}
-use Rattle.std.proofs.lemmas.List.FromFn.{map-range_with_len_more}
-use Rattle.std.specs.List.{slice_index_or}
-use Rattle.tao_base.specs.declared.storage.Bucket.{Bucket}
+use Rattle.std.proofs.Common.{arith}
 use Rattle.tao_processor.proofs.WrittenBack.{stamp_more, rest_stays}
 use Rattle.tao_processor.proofs.writing.stamp.Goals as goal
 

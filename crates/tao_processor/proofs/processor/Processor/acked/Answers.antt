@@ -1,4 +1,4 @@
-use Rattle.std.proofs.Common.{◌≡◌, ℕ, ◌+◌, ◌-◌, ◌<◌, true, refl, length, sym, ap, ◌∙◌, subst, arith, List, get_or}
+use Rattle.std.proofs.Common.{◌≡◌, ◌-◌, true, refl, length, sym, ap, ◌∙◌, subst, arith, List}
 use Rattle.std.specs.Prelude.{slice_index, slice_set}
 use Rattle.std.proofs.lemmas.List.{get_or_read_under}
 use Rattle.tao_base.specs.declared.session.Event.{Event}

@@ -1,9 +1,7 @@
-use Rattle.std.proofs.Common.{◌≡◌, true, reverse, sym, ap, ◌∙◌, subst, arith}
+use Rattle.std.proofs.Common.{reverse, sym, ap, ◌∙◌, arith}
 use Rattle.tao_base.specs.Session.{History}
-use Rattle.tao_base.specs.declared.session.Event.TheVariants.{Arrive}
 use Rattle.tao_model.specs.Events.{arrived}
 use Rattle.tao_model.specs.Requests.{fetched_leaf}
-use Rattle.tao_model.specs.OneMore.{with_one_more}
 use Rattle.tao_requests.specs.State.{is_real_kind}
 use Rattle.tao_record.specs.State.{RecordState}
 use Rattle.tao_processor.specs.State.{ProcessorState}

@@ -1,4 +1,4 @@
-use Rattle.std.proofs.Common.{◌≡◌, ℕ, ◌+◌, ◌-◌, ◌<◌, ◌≤◌, true, not, List, filter, reverse, length, All, false, refl, sym, ap, ap₂, ◌∙◌, subst, arith}
+use Rattle.std.proofs.Common.{◌≡◌, ℕ, ◌-◌, ◌<◌, ◌≤◌, not, List, filter, length, All, refl, sym, ap, ap₂, ◌∙◌, subst, arith}
 use Rattle.tao_base.specs.declared.storage.Bucket.{Bucket}
 use Rattle.tao_base.specs.Limits.{Shape}
 use Rattle.tao_base.specs.Tree.{path, is_on_path}
@@ -112,8 +112,8 @@ touch_path-requires-clause-leaf c =
     let row = (row_is c.self.invariant ready.there (omega (arith, c.self.inside.fetches.ok)) c.index.ensures) in
     leaf_fits (sym c.self.invariant.record_is.shape) row.0 ready.small
 
-pub touch_path-requires-clause-rising : goal.touch_path-requires-clause-rising
-touch_path-requires-clause-rising c =
+pub touch_path-requires-clause-rises : goal.touch_path-requires-clause-rises
+touch_path-requires-clause-rises c =
     let ready = (done_ready c.args.arrival c.self.invariant (ap (λ (st : ProcessorState). st.history) c.self.view_is) (ap (λ (st : ProcessorState). st.looked) c.self.view_is) c.requires.running c.requires.follows) in
     ready.rising
 
@@ -137,6 +137,6 @@ invariant_of-self c =
       touches = c.end_fetch.ensures.touches;
       numbers_alone = c.end_fetch.ensures.others;
       flag = c.done.ensures;
-      puts = c.touch_path.ensures.nodes;
-      no_less = c.touch_path.ensures.room;
+      puts = c.touch_path.ensures.puts;
+      no_less = c.touch_path.ensures.capacity;
     })

@@ -1,8 +1,7 @@
-use Rattle.std.proofs.Common.{◌≡◌, ◌+◌, ◌*◌, ◌≤◌, ℕ, List, All, length, refl, sym, ap, ap₂, ◌∙◌, subst, arith}
+use Rattle.std.proofs.Common.{◌≡◌, ◌+◌, ◌*◌, ◌≤◌, ℕ, List, ap, ◌∙◌, subst}
 use Rattle.std.specs.Prelude.{vec_capacity}
 use Rattle.tao_holdings.specs.Holding.{HoldingsState, none_held, leaf_by}
 use Rattle.tao_flush.specs.Loads.{IsLoaded}
-use Rattle.tao_record.specs.State.{opened}
 use Rattle.tao_processor.proofs.Opened.{opened_from}
 use Rattle.tao_processor.proofs.processor.Processor.open.Goals as goal
 

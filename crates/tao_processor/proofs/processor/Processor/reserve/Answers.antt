@@ -1,6 +1,5 @@
-use Rattle.std.proofs.Common.{◌≡◌, ℕ, length, All, List, sym, ap, ◌∙◌, subst, arith}
-use Rattle.tao_tables.specs.Pools.{Pools, KeepsPools, wanted}
-use Rattle.tao_processor.specs.Topping.{pools_from}
+use Rattle.std.proofs.Common.{◌≡◌, length, All, sym, ap, ◌∙◌, subst, arith}
+use Rattle.tao_tables.specs.Pools.{wanted}
 use Rattle.tao_processor.proofs.ReserveKept.{grown_keeps, ready_keeps, counts_small}
 use Rattle.tao_processor.proofs.processor.Processor.reserve.Goals as goal
 
