@@ -21,7 +21,7 @@ pub struct Room {
     alloc: Global,
     z: usize,
     b: usize,
-    // Has what was last decoded, or tried.
+    // What was last decoded, or given in exchange for it.
     bucket: Bucket,
     is_full: bool,
     // Blocks for the entries that the bucket doesn't have.

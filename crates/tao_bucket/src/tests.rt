@@ -3,7 +3,7 @@ ghost use Rattle.tao_base.specs.Limits.{bucket_len};
 ghost use Rattle.tao_base.specs.Tree.{node_count};
 ghost use Rattle.tao_bucket.specs.Encoding.{IsWritten};
 
-use crate::{Room, decode, encode_into, node_of, nonce_of, version_of};
+use crate::{Room, decode, encode_into, node_of, nonce_of, stocked, version_of};
 use std::alloc::Global;
 use std::process::Abort;
 use std::test::Fail;
@@ -315,6 +315,19 @@ fn altered_tags(rt: HostRuntime) -> Result<(), Fail> {
             (root, leaf),
             "at {format} {change:?}"
         );
+    }
+    Ok(())
+}
+
+// as many blocks as a bucket of the store may have
+#[test]
+fn stock(rt: HostRuntime) -> Result<(), Fail> {
+    let p = Params::new(2, 2, 4, 4, 1)?;
+    let stock = stocked(rt.alloc(), &p)?;
+    let entries = stock.entries.as_slice();
+    assert_eq!(rt; entries.len(), 2);
+    for entry in entries {
+        assert_eq!(rt; entry.value.as_slice().len(), 4);
     }
     Ok(())
 }

@@ -1,4 +1,4 @@
--- Laws of a record that a proxy made: its write-backs are true. A record's events are oldest first.
+-- Laws of a record that a proxy made: its write-backs are true. A record's events are oldest first, a list `es` is newest first.
 use Rattle.std.specs.Prelude.{◌≡◌, ℕ, ◌<◌, ◌≤◌, ◌==◌, true, false, ◌&&◌, List, [], ◌∷◌, reverse, All}
 use Rattle.std.specs.List.{list_any}
 use Rattle.tao_base.specs.declared.calls.Op.{Op}
@@ -59,17 +59,17 @@ ResidentsAreClean = (o : Opening) (events : List Event) → IsOfProxy o (reverse
 abbrev pub present : Opening → List Event → ℕ → List Entry
 present o es = current_contents (λ w. is_resident o es w) (λ w. held o es w) (λ w. newest_entries o es w)
 
--- Of each block there is one copy, with its settled value, in the stash or on the path of its position.
+-- Where answers were honest, there is one copy of each block, with its settled value, in the stash or on the path of its position.
 abbrev pub CopiesAreFresh : Type 0
 CopiesAreFresh = (o : Opening) (events : List Event) → IsOfProxy o (reverse events) → Unaltered HasEntriesOf o (reverse events)
     → FreshCopy o.shape (λ b. position o (reverse events) b) (λ b. settled_value o (reverse events) b) (present o (reverse events))
 
--- What a real fetch found is its plain reply.
+-- Where answers were honest, what a real fetch found is its plain reply.
 abbrev pub FoundIsPlain : Type 0
 FoundIsPlain = (o : Opening) (events : List Event) (i : ℕ) → IsOfProxy o (reverse events) → Unaltered HasEntriesOf o (reverse events)
     → is_done (reverse events) i ≡ true → is_real (reverse events) i ≡ true → found_value o (reverse events) i ≡ plain_reply o (reverse events) i
 
--- What a settled arrival is answered is its plain reply.
+-- Where answers were honest, what a settled arrival is answered is its plain reply.
 abbrev pub AnswersAreRight : Type 0
 AnswersAreRight = (o : Opening) (events : List Event) (j : ℕ) → IsOfProxy o (reverse events) → Unaltered HasEntriesOf o (reverse events)
     → j < arrived (reverse events) → is_settled (reverse events) j ≡ true → served_answer o (reverse events) j ≡ plain_reply o (reverse events) j
@@ -117,7 +117,7 @@ pub record IsHonestScan (o : Opening) (es : List Event) (taken : List Bucket) : 
   pub all : (w : ℕ) → 1 ≤ w → w ≤ node_count o.shape.l → is_resident o es w ≡ false → list_any (λ v. v == w) (nodes_in taken) ≡ true
   pub honest : All (λ bucket. bucket.entries ≡ newest_entries o es bucket.node) taken
 
--- When all is done and all nodes are seen, what is seen is the plain array.
+-- When all is done and all nodes are seen, where answers were honest, what is seen is the plain array.
 abbrev pub ArrayIsSeen : Type 0
 ArrayIsSeen = (o : Opening) (events : List Event) (taken : List Bucket) (nodes : List ℕ) → IsOfProxy o (reverse events) → Unaltered HasEntriesOf o (reverse events)
     → dones (reverse events) ≡ arrived (reverse events) → IsHonestScan o (reverse events) taken → AreAllNodes o.shape.l nodes

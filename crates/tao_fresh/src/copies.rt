@@ -6,7 +6,7 @@ pub fn residents_are_clean()
     ensures { ResidentsAreClean }
 {}
 
-/// Of each block there is one copy, with its settled value, in the stash or on the path of its position.
+/// Where answers were honest, there is one copy of each block, with its settled value, in the stash or on the path of its position.
 pub fn copies_are_fresh()
     ensures { CopiesAreFresh }
 {}

@@ -6,7 +6,7 @@ pub fn dones_are_counted()
     ensures { DonesAreCounted }
 {}
 
-/// When all is done and all nodes are seen, what is seen is the plain array.
+/// When all is done and all nodes are seen, where answers were honest, what is seen is the plain array.
 pub fn array_is_seen()
     ensures { ArrayIsSeen }
 {}

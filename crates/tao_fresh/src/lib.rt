@@ -1,4 +1,4 @@
-//! Laws of a record whose write-backs are true: clean nodes, fresh copies, right answers, fresh writes.
+//! Laws of a record whose write-backs are true: clean nodes; and where no bucket that came in was altered, fresh copies, right answers, fresh writes.
 //! There is no code but the laws: functions with empty bodies whose contract is the law.
 #![tactic(auto)]
 

@@ -1,7 +1,7 @@
 //! Laws: what is written.
 ghost use Rattle.tao_fresh.specs.FreshLaws.{WritesAreFresh};
 
-/// The load and each write-back were fresh writes when they were made.
+/// Where answers were honest, the load and each write-back were fresh writes when they were made.
 pub fn writes_are_fresh()
     ensures { WritesAreFresh }
 {}

@@ -24,7 +24,7 @@ writes_are_answered = record { written = refl; one_by_one = refl; at_once = refl
 
 pub copies_that_count : CopiesThatCount
 unfolding held found_value served_answer
-copies_that_count = record { stash = refl; placed = refl; resident = refl }
+copies_that_count = record { stash = refl; placed = refl; resident = refl; waits = refl }
 
 -- whether each bucket has the entries that were held at its node, as a list of facts
 AreHeld : Opening → List Event → List Bucket → Type 0

@@ -95,7 +95,7 @@ found_value o (Issue version nonce buckets ∷ es) i = found_value o es i
 found_value o (Acked version ∷ es) i = found_value o es i
 found_value o (Fault cause ∷ es) i = found_value o es i
 
--- what a settled arrival is answered: what its settler's fetch found, after the operations from the settler on up to the arrival; no bytes to a pad
+-- what a settled arrival is answered: what its settler's fetch found, after the operations from the settler on up to before the arrival; no bytes to a pad
 unfoldable pub served_answer : Opening → List Event → ℕ → List ℕ
 served_answer o es j = if is_pad es j then [] else value_between es (block_on es j) (settler es j) j (found_value o es (settler es j))
 

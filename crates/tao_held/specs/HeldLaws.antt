@@ -60,7 +60,7 @@ BetweenIsFold = (events : List Event) (blocks : List (List ℕ)) (block i k : �
 
 -- ---- contents that are equal node by node
 
--- an eviction hangs on the contents and on the leaves of the blocks that are gathered alone
+-- an eviction depends on the contents and on the leaves of the blocks that are gathered alone
 abbrev pub EvictedAlike : Type 0
 EvictedAlike = (s : Shape) (path : List ℕ) (leaf leaf' : ℕ → ℕ) (old old' : ℕ → List Entry) → ((w : ℕ) → old w ≡ old' w)
     → ((b : ℕ) → is_some (first_copy (0 ∷ path) old b) ≡ true → leaf b ≡ leaf' b) → (w : ℕ) → evicted s path leaf old w ≡ evicted s path leaf' old' w
@@ -69,7 +69,7 @@ EvictedAlike = (s : Shape) (path : List ℕ) (leaf leaf' : ℕ → ℕ) (old old
 abbrev pub AreIdsBelow : ℕ → (ℕ → List Entry) → Type 0
 AreIdsBelow n contents = (w : ℕ) → All (λ entry. entry.id < n) (contents w)
 
--- So is it of a whole fetch: the leaves of the store's blocks count alone, where all entries are of these blocks.
+-- So does a whole fetch. Where all entries are of the store's blocks, only the leaves of these count.
 abbrev pub FetchedAlike : Type 0
 FetchedAlike = (real : Bool) (s : Shape) (at : ℕ) (leaf leaf' : ℕ → ℕ) (resident resident' : ℕ → Bool) (taken own own' : ℕ → List Entry) (block : ℕ) (value : List ℕ)
     → ((b : ℕ) → b < s.n → leaf b ≡ leaf' b) → ((w : ℕ) → resident w ≡ resident' w) → ((w : ℕ) → own w ≡ own' w)

@@ -46,6 +46,12 @@ altered_path =
     Arrive 0 (Read 3) 3
     ∷ Done 0 (bucket 1 0 1 (entry 2 zero ∷ []) ∷ bucket 2 0 2 (entry 1 zero ∷ []) ∷ bucket 4 0 4 (entry 3 all_a ∷ []) ∷ []) ∷ []
 
+-- The same path as it was written, and a word that leaves block 3 no place in a node.
+abbrev pub waiting_path : List Event
+waiting_path =
+    Arrive 0 (Read 3) 0
+    ∷ Done 0 (bucket 1 0 1 (entry 2 zero ∷ []) ∷ bucket 2 0 2 (entry 1 zero ∷ []) ∷ bucket 4 0 4 (entry 0 zero ∷ []) ∷ []) ∷ []
+
 -- Two reads of a block with a value, one after another, before anything is written back.
 abbrev pub read_again : History
 read_again = history
@@ -56,8 +62,9 @@ read_again = history
     ∷ Arrive 0 (Read 0) 0
     ∷ Done 1 (bucket 3 0 3 [] ∷ []) ∷ [])
 
--- The stash's copy counts, not that of an altered node; and a node that is held isn't taken in again.
+-- The stash's copy counts, not that of an altered node; a node that is held isn't taken in again; what finds no place stays in the stash.
 pub record CopiesThatCount : Type 0 where
   pub stash : served_answer full_path.opening (reverse altered_path) 0 ≡ zero
   pub placed : held_after (history full_path.opening altered_path) 2 4 ≡ [] ∷ (entry 3 zero ∷ []) ∷ (entry 2 zero ∷ []) ∷ [] ∷ (entry 1 zero ∷ []) ∷ []
   pub resident : served_answer read_again.opening (reverse read_again.events) 1 ≡ all_a
+  pub waits : held_after (history full_path.opening waiting_path) 2 0 ≡ (entry 3 zero ∷ []) ∷ []

@@ -1,7 +1,7 @@
 //! Laws: contents that are equal node by node.
 ghost use Rattle.tao_held.specs.HeldLaws.{EvictedAlike, FetchedAlike, PutIsGathered};
 
-/// An eviction hangs on the contents and on the leaves of the gathered blocks alone.
+/// An eviction depends on the contents and on the leaves of the gathered blocks alone.
 pub fn evicted_alike()
     ensures { EvictedAlike }
 {}

@@ -88,13 +88,13 @@ without st version node held w = held w && not (w == node && may_go st version w
 abbrev pub left_by : HoldingsState → ℕ → ℕ → (ℕ → List Entry) → ℕ → List Entry
 left_by st version node contents w = if not (w == 0) && (w == node && may_go st version w) then [] else contents w
 
--- each node that is held has a bucket of its own in form, the stash is one, and each block has a word
+-- each node that is held has a bucket of its own in form, the stash is in order, and each block has a word
 pub record AreForms (st : HoldingsState) : Type 0 where
   pub shape : IsShape st.shape
   pub words : length st.words ≡ st.shape.n
   pub nodes : (w : ℕ) → IfSome (slice_index_or st.nodes w None) (λ bucket. (bucket.node ≡ w) × IsInForm st.shape bucket)
   pub stash : IsStash st.shape st.stash
 
--- the versions once a write-back of these nodes was issued with this one
+-- the versions once a write-back of these nodes was issued with this version
 abbrev pub written_at : List ℕ → ℕ → (ℕ → ℕ) → ℕ → ℕ
 written_at nodes version versions w = if list_any (λ v. v == w) nodes then version else versions w

@@ -1,4 +1,4 @@
-//! The lists of a path's nodes, exchanged all at once.
+//! The entries of some nodes, exchanged with lists or buckets that are given.
 ghost use Rattle.std.specs.Prelude.{◌≡◌, ℕ, ◌+◌, ◌^◌, ◌<◌, true, [], ◌∷◌, length, map, is_some, All};
 ghost use Rattle.tao_base.specs.Tree.{path, is_on_path};
 ghost use Rattle.std.specs.List.Sorted.{IsStrictlyIncreasing};

@@ -1,4 +1,4 @@
--- What is assumed of buckets that come back: nobody alters their bytes, or has another bucket with the same tag.
+-- What is assumed of a bucket that comes back against the written one, and what reading ensures of its tag.
 use Rattle.std.specs.Prelude.{◌≡◌, ◌≢◌, ◌⊎◌, ℕ, List}
 use Rattle.tao_base.specs.Limits.{Shape}
 use Rattle.tao_base.specs.declared.storage.Bucket.{Bucket}

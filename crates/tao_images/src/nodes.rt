@@ -18,7 +18,7 @@ pub enum Refused {
     Stale { node: u32, wanted: u32, found: u32 },
 }
 
-/// Reads the bucket of a node into the room, where its latest write had this version and this tag. Without tags any tag will do.
+/// Reads the bucket of a node into the room, where its latest write had this version and this tag. In format 1 any tag will do.
 #[tactic(auto, unfolding(crate::specs::Nodes::node_refusal))]
 pub fn read_node(
     p: &Params,

@@ -25,6 +25,6 @@ put_of pass = (view pass.pass).put
 abbrev pub took_of : TakePass → List ℕ
 took_of pass = (view pass.pass).took
 
--- of what was put the last pieces, as many as the queue may hold, lay in it at one moment
+-- at least as many pieces were put as the queue may hold, which is all that a clause can say of a full queue
 abbrev pub WasFull : Orders → List Work → Type 0
 WasFull orders put = (gone held : List Work) × (put ≡ gone ++ held) × (length held ≡ capacity_of orders)

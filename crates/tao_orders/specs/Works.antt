@@ -40,7 +40,7 @@ EachOnce ns = (n : ℕ) → 1 ≤ n → times n ns ≤ 1
 abbrev pub IsNewest : List ℕ → ℕ → Type 0
 IsNewest took version = 1 ≤ version → (n : ℕ) → 1 ≤ times n took → (1 ≤ n) × (n < version)
 
--- what is left of what was put, where a pass took these numbers: they are among those of the rest
+-- a last part of what was put; the numbers that a pass took are among those of what stands before it
 pub record IsLeft (put : List Work) (took : List ℕ) (left : List Work) : Type 0 where
   pub gone : List Work
   pub suffix : put ≡ gone ++ left

@@ -16,16 +16,22 @@ fn order(alloc: Global, version: u32) -> Work
 {
     Work::Order(Order {
         version,
-        nonce: 0,
+        nonce: u64::from(version),
         nodes: Numbers::new(alloc),
         image: Image::new(alloc),
     })
 }
 
-// The version of an order; 0 for a Stop.
+// The version of an order that is as it was put; 0 for another one and for a Stop.
 fn version_of(work: &Work) -> u32 {
     match work {
-        Work::Order(order) => order.version,
+        Work::Order(order) => {
+            if order.nonce == u64::from(order.version) {
+                order.version
+            } else {
+                0
+            }
+        }
         Work::Stop => 0,
     }
 }

@@ -1,4 +1,4 @@
--- What the fields of a processor are, as functions of the record: one group for each of them.
+-- What the tables of a processor are, as functions of the record, and what holds of the memory that waits.
 use Rattle.std.specs.Prelude.{◌≡◌, ℕ, ◌+◌, ◌*◌, ◌≤◌, Bool, List, length, reverse, All}
 use Rattle.std.specs.List.{slice_index_or}
 use Rattle.tao_base.specs.declared.session.Event.{Event}

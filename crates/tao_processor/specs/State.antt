@@ -5,7 +5,7 @@ use Rattle.tao_base.specs.declared.session.Event.TheVariants.{Issue}
 use Rattle.tao_model.specs.Events.{issues}
 use Rattle.tao_base.specs.declared.storage.Bucket.{Bucket}
 use Rattle.tao_base.specs.Limits.{Shape}
-use Rattle.tao_base.specs.Session.{Opening, History}
+use Rattle.tao_base.specs.Session.{History}
 use Rattle.tao_model.specs.Requests.{position}
 use Rattle.tao_model.specs.Residence.{last_touch, is_resident, newest_version}
 use Rattle.tao_held.specs.Held.{held, IsOfProxy}
@@ -19,10 +19,6 @@ pub record ProcessorState : Type 0 where
   pub holdings : HoldingsState
   pub ready : Bool
   pub looked : List Bucket
-
--- the events, the newest first
-abbrev pub events_of : ProcessorState → List Event
-events_of c = reverse c.history.events
 
 -- the record with one more event
 abbrev pub with_event : History → Event → History
@@ -40,7 +36,7 @@ pub record IsProcessorSound (c : ProcessorState) : Type 0 where
   pub shape : c.holdings.shape ≡ c.history.opening.shape
   pub forms : AreForms c.holdings
 
--- a write-back was recorded, and nothing else changed that contracts see
+-- a write-back was recorded; of all else that contracts see, only what is held may differ
 pub record Issues (old new : ProcessorState) : Type 0 where
   pub nonce : ℕ
   pub buckets : List Bucket

@@ -1,4 +1,4 @@
--- What the Done of an arrival makes of the parts of the processor.
+-- What each event makes of the parts of the processor.
 use Rattle.std.specs.Prelude.{◌≡◌, ◌==◌, ℕ, ◌+◌, ◌≤◌, Bool, true, false, not, ◌&&◌, if◌then◌else◌, List, [], map, slice_index, length, slice_set, All}
 use Rattle.std.specs.List.{list_any, range_with_len}
 use Rattle.tao_base.specs.Limits.{Shape}

@@ -67,7 +67,7 @@ pub(crate) fn fill_stock(
     Ok(())
 }
 
-/// Makes the list long enough for so many items.
+/// Gives the list capacity for so many items.
 pub(crate) fn widen<T>(list: &mut Vec<T>, count: usize) -> Result<(), NoMemory>
 where
     T: Drop,

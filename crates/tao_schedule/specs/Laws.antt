@@ -35,7 +35,7 @@ abbrev pub ServerIsNewest : Type 0
 ServerIsNewest = (o : Opening) (ms : List Move) (es : List Event) (node : ℕ) → IsSchedule o ms es → FollowsLawfully o es → IsAllAcked es
     → server_version ms node ≡ newest_version es node
 
--- the moves of these steps change no event
+-- these moves may come, one behind the other, and add no event
 abbrev pub ChangesNone : Opening → List Move → List Event → List Move → Type 0
 ChangesNone o ms es moves = GoOn o ms es moves (reverse moves ++ ms) es
 
@@ -58,7 +58,7 @@ MayGo o ms es (What.Done fetch) = (is_under_way es fetch ≡ true) × ((node : �
 MayGo o ms es (What.Put version bucket) = ChangesNone o ms es (moves_of o ms es 0 (What.Put version bucket))
 MayGo o ms es (What.Ack version) = Goes o ms es (Acknowledges version) (Acked version ∷ es)
 
--- The tests of steps say just that.
+-- A step that is neither misplaced nor full may do so.
 abbrev pub PlacedMayGo : Type 0
 PlacedMayGo = (o : Opening) (ms : List Move) (es : List Event) (what : What) → FollowsLawfully o es → HasDepth o.shape what → is_misplaced o ms es what ≡ false → is_full o es what ≡ false
     → MayGo o ms es what

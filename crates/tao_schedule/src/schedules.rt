@@ -32,7 +32,7 @@ pub fn alike_go_on()
     ensures { AlikeGoOn }
 {}
 
-/// One script has one schedule. That a step is misplaced is a fact of the script rests on it.
+/// One script has one schedule. That the script alone decides which steps are misplaced rests on it.
 pub fn one_schedule()
     ensures { OneSchedule }
 {}
@@ -52,7 +52,7 @@ pub fn server_is_newest()
     ensures { ServerIsNewest }
 {}
 
-/// A step that isn't misplaced can be played. That the session of a script is never stopped elsewhere rests on it.
+/// A step that is neither misplaced nor full meets the conditions of its moves. That a script is never stopped elsewhere rests on it.
 pub fn placed_may_go()
     ensures { PlacedMayGo }
 {}

@@ -16,7 +16,7 @@ pub fn issued_is_written()
     ensures { IssuedIsWritten }
 {}
 
-/// Each arrival is done at most once.
+/// There are no more Dones than arrivals.
 pub fn dones_within()
     ensures { DonesWithin }
 {}

@@ -22,7 +22,7 @@ pub record TellsPositions (o : Opening) (es : List Event) (words : List ℕ) : T
 abbrev pub words_done : List Event → ℕ → List ℕ → List ℕ
 words_done es i words = if is_real es i then slice_set words (block_on es i) (word_of es i) else words
 
--- What one more event makes of them: only the Done of a real arrival changes a word. `start` is what an opening gives.
+-- What one more event makes of them: only the Done of a real arrival changes a word. `leaves` says that the words give the positions.
 pub record PositionsMove (o : Opening) (events : List Event) (words : List ℕ) : Type 0 where
   pub leaves : (b : ℕ) → b < o.shape.n → leaf_of o.shape.l (slice_index words b) ≡ position o (reverse events) b
   pub arrive : (client : ℕ) (op : Op) (word : ℕ) → FollowsLawfully o (with_one_more events (Arrive client op word)) → TellsPositions o (with_one_more events (Arrive client op word)) words

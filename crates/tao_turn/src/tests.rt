@@ -86,7 +86,7 @@ fn note<R: Wait>(rt: &R, lock: &TurnLock<Notes>, pass: Pass, by: u32, mark: u64)
     lock.leave(held)
 }
 
-// Many turns, and the last note that was met from the other share.
+// Many turns, each with a note.
 fn many_notes<R: Wait>(rt: &R, lock: &TurnLock<Notes>, pass: Pass, by: u32, count: u64) -> Pass
     requires pass { IsPassOf lock.now pass }
     requires share { has by (known pass).shares ≡ true }
@@ -130,12 +130,15 @@ fn two_threads_take_turns(rt: HostRuntime) -> Result<(), Fail> {
 }
 
 #[test]
+#[tactic(auto, using(crate::proofs::NoteLemmas::no_note))]
 fn a_forgotten_turn_is_told(rt: HostRuntime) -> Result<(), Fail> {
     let (lock, first, second) = two_passes(rt.alloc())?;
+    let held = lock.enter(&rt, second);
+    let second = lock.leave(held);
     mem::forget(lock.enter(&rt, first));
     match lock.close(second) {
         Ok(_) => assert!(rt; false),
-        Err(left) => assert_eq!(rt; (left.ticket, left.serving), (1, 0)),
+        Err(left) => assert_eq!(rt; (left.ticket, left.serving), (2, 1)),
     }
     Ok(())
 }
