@@ -10,10 +10,11 @@ use Rattle.tao_orders.specs.declared.work.Work.{Work}
 abbrev pub capacity_of : Orders → ℕ
 capacity_of orders = ruled_capacity orders.line
 
--- they are passes of this queue
+-- the pass puts into this queue
 abbrev pub IsPutPassOf : Orders → PutPass → Type 0
 IsPutPassOf orders pass = IsPassOf orders.line pass.pass
 
+-- the pass takes from this queue
 abbrev pub IsTakePassOf : Orders → TakePass → Type 0
 IsTakePassOf orders pass = IsPassOf orders.line pass.pass
 

@@ -8,6 +8,7 @@ use Rattle.tao_orders.specs.declared.hand.Hand.{Hand}
 use Rattle.tao_orders.specs.declared.work.Slip.{Slip}
 use Rattle.tao_orders.specs.declared.work.Work.{Work}
 
+-- what a pass has done: whether it is the one that puts, what it put and what it took
 abbrev pub hand : Bool → List Work → List ℕ → Hand
 hand puts put took = record { puts = puts; put = put; took = took }
 

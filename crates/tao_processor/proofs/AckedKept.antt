@@ -31,13 +31,13 @@ use Rattle.tao_tables.proofs.KeptWrites.{writes_are_told}
 use Rattle.tao_tables.proofs.MovedTables.{tells_acked}
 use Rattle.tao_tables.proofs.WrittenTables.{issued_is}
 use Rattle.tao_tables.proofs.PoolRoom.{room_acked, counts_are_known}
-use Rattle.tao_tables.proofs.ProxySteps.{proxy_goes_on}
+use Rattle.tao_tables.proofs.ProxySteps.{proxy_goes_on, follows_on}
 use Rattle.tao_record.specs.State.{RecordState, added}
 use Rattle.tao_requests.proofs.Followed.{follows_further}
 use Rattle.tao_holdings.specs.Holding.{HoldingsState, is_held, contents_in, count_in, touch_in, without, left_by, may_go}
 use Rattle.tao_processor.specs.Steps.{Forgets}
 use Rattle.tao_processor.specs.Groups.{Parts, IsProcessor, NodesAre, pools_of}
-use Rattle.tao_processor.proofs.Kept.{follows_more, nodes_with}
+use Rattle.tao_processor.proofs.Kept.{nodes_with}
 
 -- ---- one node more leaves
 
@@ -148,7 +148,7 @@ ready_for_acked x version is running may = record {
     es = reverse events
 
     lawful : FollowsLawfully o (with_one_more events (Acked version))
-    lawful = follows_more o events (Acked version) is.record_is.proxy.follows running may
+    lawful = follows_on o events (Acked version) is.record_is.proxy.follows running may
 
     fewer : acks es < issues es
     fewer = (acks_are_counted o events is.record_is.proxy.follows).some version may.1 may.2 may.3

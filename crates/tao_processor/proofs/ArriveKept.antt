@@ -27,7 +27,7 @@ use Rattle.tao_tables.proofs.KeptRows.{rows_are_told, positions_are_told}
 use Rattle.tao_tables.proofs.KeptWrites.{writes_are_told}
 use Rattle.tao_tables.proofs.MovedTables.{tells_arrive}
 use Rattle.tao_tables.proofs.PoolRoom.{room_grows, room_arrive, counts_are_known}
-use Rattle.tao_tables.proofs.ProxySteps.{proxy_goes_on}
+use Rattle.tao_tables.proofs.ProxySteps.{proxy_goes_on, follows_on}
 use Rattle.tao_record.specs.State.{RecordState, added}
 use Rattle.tao_requests.specs.State.{RequestsState, begun, kind_now, is_real_kind}
 use Rattle.tao_requests.proofs.Followed.{following, as_many, follows_arrive, kind_is_real}
@@ -36,7 +36,6 @@ use Rattle.tao_subtree.specs.Residents.{AreFew}
 use Rattle.tao_processor.specs.declared.fetches.Fetch.{Fetch}
 use Rattle.tao_processor.specs.Steps.{leaf_now}
 use Rattle.tao_processor.specs.Groups.{Parts, IsProcessor, KeepsHoldings, NodesAre, pools_of, no_row, row_leaf, row_word}
-use Rattle.tao_processor.proofs.Kept.{follows_more}
 use Rattle.tao_processor.proofs.DoneReady.{leaf_small}
 
 -- what an arrival finds
@@ -111,7 +110,7 @@ ready_to_arrive x client op word is ready running may = record {
     es = reverse events
 
     lawful : FollowsLawfully o (with_one_more events (Arrive client op word))
-    lawful = follows_more o events (Arrive client op word) is.record_is.proxy.follows running may
+    lawful = follows_on o events (Arrive client op word) is.record_is.proxy.follows running may
 
     after : AfterArrive o es (with_one_more events (Arrive client op word)) op word
     after = one_more_arrive o events client op word lawful

@@ -41,8 +41,8 @@ use Rattle.tao_held.specs.Steps.{with_path}
 use Rattle.tao_processor.specs.declared.fetches.Fetch.{Fetch}
 use Rattle.tao_processor.specs.Steps.{is_for_block}
 use Rattle.tao_processor.specs.Groups.{Parts, IsProcessor, pools_of, no_row}
-use Rattle.tao_processor.proofs.Kept.{follows_more}
 use Rattle.tao_tables.proofs.KeptWrites.{recent_is_short}
+use Rattle.tao_tables.proofs.ProxySteps.{follows_on}
 use Rattle.tao_processor.proofs.DoneHoldings.{same_block}
 
 -- what a Done finds
@@ -130,7 +130,7 @@ ready_for_done x i taken is running may = record {
     rs = x.requests.requests
 
     lawful : FollowsLawfully o (with_one_more events (Done i taken))
-    lawful = follows_more o events (Done i taken) is.record_is.proxy.follows running may
+    lawful = follows_on o events (Done i taken) is.record_is.proxy.follows running may
 
     work : CountsWork o es
     work = work_is_counted o events is.record_is.proxy.follows

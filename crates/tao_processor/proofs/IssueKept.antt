@@ -1,5 +1,5 @@
 -- A write-back leaves all groups.
-use Rattle.std.proofs.Common.{◌≡◌, ℕ, ◌+◌, ◌-◌, ◌*◌, ◌^◌, ◌<◌, ◌≤◌, Bool, true, false, ◌||◌, cond, List, [], ◌∷◌, ◌++◌, length, filter, map, reverse, All, Some, is_some, refl, sym, ap, ◌∙◌, subst, arith, nat_eq, nat_lt, get_or}
+use Rattle.std.proofs.Common.{◌≡◌, ℕ, ◌+◌, ◌-◌, ◌*◌, ◌^◌, ◌<◌, ◌≤◌, Bool, true, false, cond, List, [], ◌∷◌, ◌++◌, length, filter, map, reverse, All, refl, sym, ap, ◌∙◌, subst, arith, nat_eq, nat_lt, get_or}
 use Rattle.std.specs.List.{list_any, range_with_len}
 use Rattle.std.specs.List.Sorted.{IsStrictlyIncreasing}
 use Rattle.std.proofs.Math.Pow.{pow_mono}
@@ -18,14 +18,13 @@ use Rattle.tao_base.specs.Session.{Opening, History}
 use Rattle.tao_base.specs.Limits.{Shape, session_limit}
 use Rattle.tao_base.specs.Tree.{node_count}
 use Rattle.tao_model.specs.Events.{arrived, dones, issues, acks, buckets_issued, has_fault}
-use Rattle.tao_model.specs.Residence.{last_touch, bucket_of}
-use Rattle.tao_model.specs.Trace.{nodes_in}
+use Rattle.tao_model.specs.Residence.{last_touch}
 use Rattle.tao_model.specs.Lawful.{FollowsLawfully, MayBeIssued, IsInForm, touched_after}
 use Rattle.tao_model.specs.OneMore.{with_one_more}
 use Rattle.tao_model.proofs.NewestWrites.{newest_is_greatest}
 use Rattle.tao_model.proofs.Stays.{newest_first}
 use Rattle.tao_model.proofs.LawfulToWhole.{follows_opening}
-use Rattle.tao_laws.proofs.RecentNodes.{recent_is_resident}
+use Rattle.tao_laws.proofs.RecentNodes.{bucket_in, recent_is_resident}
 use Rattle.tao_held.specs.Held.{held}
 use Rattle.tao_tables.specs.Tables.{TellsNodes}
 use Rattle.tao_tables.specs.Positions.{TellsPositions}
@@ -39,14 +38,13 @@ use Rattle.tao_tables.proofs.KeptRows.{rows_are_told, positions_are_told}
 use Rattle.tao_tables.proofs.KeptWrites.{writes_are_told, recent_is_short, issue_may_follow}
 use Rattle.tao_tables.proofs.MovedTables.{tells_issue}
 use Rattle.tao_tables.proofs.PoolRoom.{room_issue, room_grows, counts_are_known}
-use Rattle.tao_tables.proofs.ProxySteps.{proxy_goes_on}
+use Rattle.tao_tables.proofs.ProxySteps.{proxy_goes_on, follows_on}
 use Rattle.tao_record.specs.State.{RecordState, added, issue_len}
 use Rattle.tao_requests.proofs.Followed.{follows_further}
 use Rattle.tao_holdings.specs.Holding.{HoldingsState, is_held, contents_in, count_in, touch_in, version_in, written_at}
 use Rattle.tao_holdings.specs.Lists.{with_entries_of}
 use Rattle.tao_processor.specs.Steps.{IsNodeOf, IsEmpty, stamps, written_of, HoldsAgain}
 use Rattle.tao_processor.specs.Groups.{Parts, IsProcessor, NodesAre, pools_of}
-use Rattle.tao_processor.proofs.Kept.{follows_more}
 use Rattle.tao_processor.proofs.DoneReady.{filter_shorter}
 use Rattle.tao_processor.proofs.WrittenBack.{stamps_len, stamp_there, all_stamps, stamps_nodes, nodes_stay}
 
@@ -59,14 +57,6 @@ passing p (x ∷ xs) = either (p x) refl (passing p xs)
     either : (t : Bool) → p x ≡ t → All (λ y. p y ≡ true) (filter p xs) → All (λ y. p y ≡ true) (cond t (x ∷ filter p xs) (filter p xs))
     either true is ih = All-cons (λ y. p y ≡ true) x (filter p xs) is ih
     either false is ih = ih
-
-bucket_there : (w : ℕ) (bs : List Bucket) → is_some (bucket_of w bs) ≡ list_any (λ v. nat_eq v w) (nodes_in bs)
-bucket_there w [] = refl
-bucket_there w (b ∷ bs) = either (nat_eq b.node w) (bucket_there w bs)
-  where
-    either : (t : Bool) → is_some (bucket_of w bs) ≡ list_any (λ v. nat_eq v w) (nodes_in bs) → is_some (cond t (Some b) (bucket_of w bs)) ≡ (t || list_any (λ v. nat_eq v w) (nodes_in bs))
-    either true ih = refl
-    either false ih = ih
 
 -- the nonces of the buckets count on
 nonces_count : (c : ℕ → List Entry) (nodes : List ℕ) (v n : ℕ) → map (λ bucket. bucket.nonce) (written_of c nodes v n) ≡ range_with_len n (length (written_of c nodes v n))
@@ -268,12 +258,12 @@ issue_keeps {x} {version} {nonce} {recent_room} {place_room} {session} {h1} {h2}
         (subst (λ v. AreStamped o x.recent v x.next_nonce buckets) does.numbered stamped))
 
     lawful : FollowsLawfully o now
-    lawful = follows_more o events (Issue version x.next_nonce buckets) is.record_is.proxy.follows running may
+    lawful = follows_on o events (Issue version x.next_nonce buckets) is.record_is.proxy.follows running may
 
     told : TellsNodes o now (λ w. is_held x.holdings w) (λ w. contents_in x.holdings w) (λ w. count_in x.holdings w) (λ w. touch_in x.holdings w) (λ w. version_in h2 w)
     told = tells_issue o events version x.next_nonce buckets (λ w. is_held x.holdings w) (λ w. contents_in x.holdings w) _ _ (λ w. version_in x.holdings w) (λ w. version_in h2 w) is.held_is.nodes
         (λ w. ap (λ (g : ℕ → ℕ). g w) (does.versions ∙ ap (λ (g : ℕ → ℕ). written_at x.recent version g) (ap (λ (st : HoldingsState). version_in st) does.again.others))
-        ∙ ap (λ t. cond t version (version_in x.holdings w)) (sym (bucket_there w buckets ∙ ap (list_any (λ v. nat_eq v w)) stamped.nodes)))
+        ∙ ap (λ t. cond t version (version_in x.holdings w)) (sym (bucket_in w buckets ∙ ap (list_any (λ v. nat_eq v w)) stamped.nodes)))
 
     nodes : NodesAre o now h2
     nodes = record {

@@ -23,10 +23,7 @@ use Rattle.tao_tables.proofs.KeptFlags.{flags_are_told}
 use Rattle.tao_tables.proofs.KeptRows.{rows_are_told, positions_are_told}
 use Rattle.tao_tables.proofs.KeptAnswers.{served_else}
 use Rattle.tao_tables.proofs.KeptWrites.{writes_are_told}
-
-pub follows_more : (o : Opening) (events : List Event) (e : Event) → FollowsLawfully o (reverse events) → has_fault (reverse events) ≡ false → MayFollow o (reverse events) e
-    → FollowsLawfully o (with_one_more events e)
-follows_more o events e f running may = subst (λ es. FollowsLawfully o es) (sym (newest_first events e)) (f, running, may)
+use Rattle.tao_tables.proofs.ProxySteps.{follows_on}
 
 -- a record that goes on lawfully, its write-backs true
 pub record_more : (p : Shape) (h : History) (e : Event) → KeepsRecord p h → has_fault (reverse h.events) ≡ false → MayFollow h.opening (reverse h.events) e
@@ -35,7 +32,7 @@ record_more p h e keeps running may writes = record {
   shape = keeps.shape;
   proxy = record {
     opens = keeps.proxy.opens;
-    follows = follows_more h.opening h.events e keeps.proxy.follows running may;
+    follows = follows_on h.opening h.events e keeps.proxy.follows running may;
     writes = subst (λ es. WritesHeld h.opening es) (sym (newest_first h.events e)) writes;
   };
 }
@@ -100,7 +97,7 @@ fault_core {x} cause is running may = record {
     events = x.session.history.events
 
     lawful : FollowsLawfully o (with_one_more events (Fault cause))
-    lawful = follows_more o events (Fault cause) is.record_is.proxy.follows running may
+    lawful = follows_on o events (Fault cause) is.record_is.proxy.follows running may
 
 pub fault_keeps : {x : Parts} {session : RecordState} (cause : Cause) → session ≡ added x.session (Fault cause) → IsProcessor x → has_fault (reverse x.session.history.events) ≡ false
     → MayFollow x.session.history.opening (reverse x.session.history.events) (Fault cause) → IsProcessor (record x { session = session })

@@ -72,10 +72,11 @@ pub record KeepsRequests (o : Opening) (events : List Event) (st : RequestsState
 abbrev pub no_row : Fetch
 no_row = record { leaf = 0; word = 0 }
 
--- the leaf and the word in a row
+-- the leaf in the row of an arrival
 abbrev pub row_leaf : List Fetch → ℕ → ℕ
 row_leaf rows i = (slice_index_or rows i no_row).leaf
 
+-- the word in the row of an arrival
 abbrev pub row_word : List Fetch → ℕ → ℕ
 row_word rows i = (slice_index_or rows i no_row).word
 

@@ -1,5 +1,5 @@
 -- What moves tell of a record: its events, with contents left out, and all that looks back on them. Moves and events are newest first.
-use Rattle.std.proofs.Common.{◌≡◌, ℕ, ◌+◌, ◌*◌, ◌<◌, Bool, true, false, ◌&&◌, ◌||◌, cond, List, [], ◌∷◌, map, Some, is_some, refl, ap, ◌∙◌, subst, arith, inl, inr, ◌⊎◌, nat_eq}
+use Rattle.std.proofs.Common.{◌≡◌, ℕ, ◌+◌, ◌*◌, ◌<◌, Bool, true, false, ◌&&◌, ◌||◌, cond, List, [], ◌∷◌, map, is_some, refl, ap, ◌∙◌, subst, arith, inl, inr, ◌⊎◌, nat_eq}
 use Rattle.std.proofs.lemmas.Bool.{eq-eqb, ne_eqb, eqb-true}
 use Rattle.tao_base.specs.declared.session.Event.{Event}
 use Rattle.tao_base.specs.declared.session.Event.TheVariants.{Arrive, Done, Issue, Acked, Fault}
@@ -18,6 +18,7 @@ use Rattle.tao_laws.proofs.WrittenNodes.{issued_from}
 use Rattle.tao_schedule.specs.Moves.{Move, Arrives, Serves, Completes, Applies, Acknowledges, nodes_issued, seen, is_served, is_applied}
 use Rattle.tao_schedule.specs.Schedules.{Goes, IsSchedule, TakesIn}
 use Rattle.tao_schedule.proofs.ServerVersions.{newest_within}
+use Rattle.tao_laws.proofs.RecentNodes.{bucket_in}
 
 -- ---- events without contents
 
@@ -230,15 +231,6 @@ nodes_are_again (Issue version nonce buckets ∷ es) v = either (nat_eq version 
 nodes_are_again (Acked version ∷ es) v = nodes_are_again es v
 nodes_are_again (Fault cause ∷ es) v = nodes_are_again es v
 
-bucket_has : (node : ℕ) (buckets : List Bucket) → is_some (bucket_of node buckets) ≡ has node (nodes_in buckets)
-bucket_has node [] = refl
-bucket_has node (b ∷ buckets) = either (nat_eq b.node node) (bucket_has node buckets)
-  where
-    either : (t : Bool) → is_some (bucket_of node buckets) ≡ has node (nodes_in buckets)
-        → is_some (cond t (Some b) (bucket_of node buckets)) ≡ (t || has node (nodes_in buckets))
-    either true ih = refl
-    either false ih = ih
-
 or_none : (t : Bool) → (t || false) ≡ t
 or_none true = refl
 or_none false = refl
@@ -259,6 +251,6 @@ issued_has o (Issue version nonce buckets ∷ es) v node f = either (nat_eq vers
         let high = (issued_from o es v node f.0 is).1 in
         let within = newest_within o es node f.0 in
         absurd (omega arith)
-    either true at false is ih = rw is (rw (bucket_has node buckets) (or_none (has node (nodes_in buckets))))
+    either true at false is ih = rw is (rw (bucket_in node buckets) (or_none (has node (nodes_in buckets))))
 issued_has o (Acked version ∷ es) v node f = issued_has o es v node f.0
 issued_has o (Fault cause ∷ es) v node f = issued_has o es v node f.0

@@ -9,6 +9,7 @@ Begins {E} xs ys = (rest : List E) × (xs ++ rest ≡ ys)
 abbrev pub longer : {E : Type 0} → List E → List E → List E
 longer xs ys = if nat_lt (length xs) (length ys) then ys else xs
 
+-- the list has no items
 abbrev pub is_empty : {A : Type 0} → List A → Bool
 is_empty [] = true
 is_empty (x ∷ xs) = false

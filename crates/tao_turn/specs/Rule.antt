@@ -46,7 +46,7 @@ module _ {E : Type 0} where
     pub seen : live ≡ true → Begins k.seen list
     pub others : live ≡ true → NoneMade maker list (length k.seen) k.shares
 
-  -- what a seat published and glanced is no more than the mark, and that of what it has seen is published but in the step before
+  -- what a seat published and glanced is no more than the mark, and the mark of what it has seen is published, except between the return of the value and its publishing
   pub record IsMarked (mark_of : List E → ℕ) (mark : ℕ) (settled : Bool) (published : ℕ) (k : Knowledge E) : Type 0 where
     pub glanced : k.told ≤ mark
     pub within : published ≤ mark
