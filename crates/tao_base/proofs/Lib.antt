@@ -1,3 +1,4 @@
 pub mod TreeLemmas
 pub mod Fronts
 pub mod ImageLemmas
+pub mod TransferLemmas

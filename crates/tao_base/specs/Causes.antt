@@ -1,15 +1,15 @@
--- Counts of faults: what a call on something outside tells when it fails, and when it does not.
+-- Fault counters: what a call on something outside does to them when it fails, and when it doesn't.
 use Rattle.std.specs.Prelude.{◌≡◌, ℕ, ◌+◌, ◌-◌, ◌^◌, ◌≤◌, ◌<◌, min, Result, IfOk, OnOk, OnErr}
 
--- one more fault, but for a count that stands still at the end of its type
+-- one more fault; the counter saturates
 abbrev pub one_more : ℕ → ℕ
 one_more count = min (count + 1) (2 ^ 64 - 1)
 
--- the count has risen, or stands at its end
+-- the fault counter was incremented, or is saturated
 abbrev pub Rose : ℕ → ℕ → Type 0
 Rose before now = one_more before ≤ now
 
--- The count never falls; a call that fails has raised it; a call that is Ok has left it.
+-- The fault counter never falls; a call that fails increments it; a call that is Ok leaves it.
 pub record HasCause {T E : Type 0} (before now : ℕ) (result : Result T E) : Type 0 where
   pub later : before ≤ now
   pub failed : OnErr result (Rose before now)

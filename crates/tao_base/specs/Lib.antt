@@ -7,4 +7,5 @@ pub mod Lines
 pub mod Links
 pub mod Memory
 pub mod Session
+pub mod Transfers
 pub mod Tree

@@ -26,7 +26,7 @@ told asked answers stored = record { asked = asked; answers = answers; stored = 
 abbrev pub asked_of : Order → Asked
 asked_of order = Store order.version order.nonce order.nodes order.image
 
--- A call that is Ok tells what it was asked and what came of it. A failed one tells what it was asked, or nothing where no room is left.
+-- A call that is Ok is logged with what came of it. A failed one is logged, or nothing is where no capacity is left.
 abbrev pub TellsMore : {T E : Type 0} → Option Told → Option Told → Asked → Result T E → List (List ℕ) → List ℕ → Type 0
 TellsMore None None asked result answers stored = ⊤
 TellsMore None (Some new) asked result answers stored = ⊥

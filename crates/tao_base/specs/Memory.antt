@@ -1,4 +1,4 @@
--- The forms in memory of a source and a sink, which tell everything.
+-- The source and the sink in memory.
 use Rattle.std.specs.Prelude.{ℕ, List, Option, None}
 
 -- the bytes that are left, the numbers of the calls that fail, and how many calls there were and how many failed
@@ -8,7 +8,7 @@ pub record SourceState : Type 0 where
   pub calls : ℕ
   pub faults : ℕ
 
--- the bytes that were put, the room for more, and the same numbers
+-- the bytes that were put, the capacity for more, and the same numbers
 pub record SinkState : Type 0 where
   pub put : List ℕ
   pub room : ℕ

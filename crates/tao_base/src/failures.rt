@@ -1,10 +1,10 @@
-//! The two plain failures: something outside failed, and memory ran out.
+//! The two plain failures: something outside failed, and out of memory.
 
 use std::alloc::{AllocError, AllocFailed};
 use std::error::Error;
 use std::fmt;
 
-/// A source, a sink or a link has failed; its count of faults has risen.
+/// A source, a sink or a link has failed; its fault counter was incremented.
 #[derive(Clone, Copy, Debug, PartialEq, Eq)]
 pub struct Failed;
 
@@ -16,7 +16,7 @@ impl fmt::Display for Failed {
 
 impl Error for Failed {}
 
-/// Memory ran out. It is the one answer without a cause.
+/// Out of memory. It is the one answer without a cause.
 #[derive(Clone, Copy, Debug, PartialEq, Eq)]
 pub struct NoMemory;
 

@@ -13,6 +13,7 @@ mod sources;
 mod storage;
 #[cfg(test)]
 mod tests;
+mod transfers;
 
 pub use calls::{Op, Reply};
 pub use failures::{Failed, NoMemory};
@@ -24,3 +25,4 @@ pub use session::{Cause, Event};
 pub use sinks::{ByteSink, Sink};
 pub use sources::{ByteSource, Source};
 pub use storage::{Bucket, BucketFault, Entries, Entry, Order};
+pub use transfers::{append_within, are_same, fill, is_listed, write_all};

@@ -1,5 +1,5 @@
 //! The way to the server.
-ghost use Rattle.std.specs.Prelude.{◌≡◌, ℕ, ◌+◌, ◌*◌, ◌^◌, ◌<◌, ◌≤◌, List, [], ◌∷◌, length, Option};
+ghost use Rattle.std.specs.Prelude.{◌≡◌, ℕ, ◌+◌, ◌*◌, ◌^◌, ◌<◌, ◌≤◌, List, [], ◌∷◌, length, Option, OnErr};
 ghost use Rattle.tao_base.specs.Causes.{HasCause};
 ghost use Rattle.tao_base.specs.declared.links.Asked.TheVariants.{Fetch};
 ghost use Rattle.tao_base.specs.Links.{Reach, Told, TellsMore, IsSendable, asked_of};
@@ -35,12 +35,13 @@ pub trait Link {
     /// What it was asked and what came of it, where it tells that.
     ghost told: { Self → Option Told };
 
-    /// Fills `path` with the buckets from the root to the leaf. Where it fails, `path` may hold anything.
+    /// Fills `path` with the buckets from the root to the leaf. A failed fetch leaves it as it was.
     fn fetch<R: Wait>(&mut self, rt: &R, id: u64, leaf: u32, path: &mut [u8]) -> Result<(), Failed>
         requires leaf { leaf < 2 ^ (reach self.old).height }
         requires path { length path.old ≡ ((reach self.old).height + 1) * (reach self.old).bucket_len }
         ensures reach { reach self.new ≡ reach self.old }
         ensures told { TellsMore (told self.old) (told self.new) (Fetch id leaf) result (path.new ∷ []) [] }
+        ensures path_kept { OnErr result (path.new ≡ path.old) }
         ensures cause { HasCause (faults self.old) (faults self.new) result };
 
     /// Sends all buckets of the order and waits for the acknowledgement.

@@ -8,8 +8,8 @@ use crate::storage::Bucket;
 use std::alloc::Global;
 use std::marker::Model;
 
-/// A growing list. Only `push`, `extend_from_slice` and `from_slice` take memory: room is made by filling a list beforehand, which is
-/// then written in place and cut.
+/// A growing list. Only `push`, `extend_from_slice` and `from_slice` allocate: a preallocated list is one that was filled, and is then
+/// written in place and truncated.
 #[derive(Debug, Drop)]
 pub struct Items<T> {
     items: Vec<T>,
@@ -42,7 +42,7 @@ impl<T> Model for Items<T> {
 impl<T> Items<T> {
     ghost use Rattle.tao_base.specs.Items.{LendsItems};
 
-    /// An empty list, which takes no memory.
+    /// An empty list. It allocates nothing.
     pub fn new(alloc: Global) -> Self
         ensures { result ≡ [] }
     {

@@ -7,8 +7,8 @@ use std::error::Error;
 use std::fmt;
 use std::marker::Model;
 
-/// How buckets are written: without tags; with tags; or the load without and every write-back with them, so that an old tree is turned
-/// over by use.
+/// How buckets are written: untagged; tagged; or mixed, the load untagged and every write-back tagged, so that use turns an old tree
+/// over.
 #[derive(Clone, Copy, Debug, PartialEq, Eq)]
 pub enum Form {
     One,
@@ -209,7 +209,7 @@ fn tag_bytes(form: Form) -> u32
     }
 }
 
-// The bytes of all buckets of a tree. The product passes 2^32 at the greatest parameters.
+// The bytes of all buckets of a tree. At the greatest parameters the product is above 2^32.
 fn tree_bytes(l: u32, z: u32, b: u32, tag: u32) -> u64
     requires height { l ≤ 16 }
     requires bucket { z ≤ 8 }

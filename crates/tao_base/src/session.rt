@@ -12,7 +12,7 @@ pub enum Cause {
         node: u32,
         fault: BucketFault,
     },
-    /// What the server gave for this node has another version than the newest write.
+    /// What the server gave for this node has another version than the latest.
     Stale {
         fetch: u64,
         node: u32,
@@ -34,7 +34,7 @@ pub enum Event {
         op: Op,
         word: u32,
     },
-    /// The fetched path of this arrival was taken in: the buckets of its nodes that the proxy didn't hold, root first.
+    /// The fetched buckets of this arrival were admitted: those of its path's nodes that the proxy didn't hold, root first.
     Done {
         arrival: u64,
         taken: Buckets,

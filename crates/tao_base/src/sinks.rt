@@ -6,7 +6,7 @@ ghost use Rattle.tao_base.specs.Memory.{no_half};
 
 use crate::failures::{Failed, NoMemory};
 use crate::lists::Numbers;
-use crate::sources::is_listed;
+use crate::transfers::{append_within, is_listed};
 use std::alloc::Global;
 use std::marker::Model;
 
@@ -15,7 +15,7 @@ pub trait Sink {
     /// The bytes that were put, where the sink tells them.
     ghost put: { Self → Option (List ℕ) };
 
-    /// How many calls have failed; the count stands still at 2^64 - 1.
+    /// How many calls have failed; the counter saturates at 2^64 - 1.
     ghost faults: { Self → ℕ };
 
     /// What a stream, which is a source too, tells of that half: its faults and the bytes left. A plain sink has (0, None).
@@ -30,7 +30,7 @@ pub trait Sink {
         ensures apart { apart self.new ≡ apart self.old };
 }
 
-/// A sink in memory, which tells everything. It takes as many bytes as room was made for, and then fails.
+/// A sink in memory, whose bytes and counts are known. It takes as many bytes as it has capacity for, and then fails.
 #[derive(Debug, Drop)]
 pub struct ByteSink {
     put: Vec<u8>,
@@ -52,7 +52,7 @@ impl Model for ByteSink {
 }
 
 impl ByteSink {
-    /// A sink without room, whose calls with the numbers in `fails`, counted from 0, fail.
+    /// A sink without capacity, whose calls with the numbers in `fails`, counted from 0, fail.
     pub fn new(alloc: Global, fails: Numbers) -> ByteSink
         ensures put { result.put ≡ [] }
         ensures room { result.room ≡ 0 }
@@ -69,7 +69,7 @@ impl ByteSink {
         }
     }
 
-    /// Makes room for `n` more bytes.
+    /// Preallocates `n` more bytes.
     pub fn reserve(&mut self, n: usize) -> Result<(), NoMemory>
         ensures ok { OnOk result (self.new ≡ record self.old { room = self.old.room + n }) }
         ensures err { OnErr result (self.new ≡ self.old) }
@@ -123,18 +123,5 @@ impl Sink for ByteSink {
         append_within(&mut self.put, &bytes[..n]);
         self.room -= n;
         Ok(n)
-    }
-}
-
-// Appends bytes for which there is room.
-fn append_within(put: &mut Vec<u8>, bytes: &[u8])
-    requires { vec_len put.old + length bytes.now ≤ vec_capacity put.old }
-    ensures items { put.new.items ≡ put.old.items ++ bytes.now }
-    ensures len { vec_len put.new ≡ vec_len put.old + length bytes.now }
-    ensures capacity { vec_capacity put.old ≤ vec_capacity put.new }
-{
-    match put.extend_from_slice(bytes) {
-        Ok(()) => {}
-        Err(_) => unreachable!(),
     }
 }

@@ -7,14 +7,15 @@ ghost use Rattle.tao_base.specs.Memory.{no_half};
 
 use crate::failures::Failed;
 use crate::lists::{Image, Numbers};
+use crate::transfers::is_listed;
 use std::marker::Model;
 
 /// Something that gives bytes, as a file or a socket does. It may fail at any call.
 pub trait Source {
-    /// The bytes that are left to be handed out, from the front, where the source tells them.
+    /// The bytes that are left, in the order in which they are handed out, where the source tells them.
     ghost left: { Self → Option (List ℕ) };
 
-    /// How many calls have failed; the count stands still at 2^64 - 1.
+    /// How many calls have failed; the counter saturates at 2^64 - 1.
     ghost faults: { Self → ℕ };
 
     /// What a stream, which is a sink too, tells of that half: its faults and the bytes put. A plain source has (0, None).
@@ -29,7 +30,7 @@ pub trait Source {
         ensures beside { beside self.new ≡ beside self.old };
 }
 
-/// A source in memory, which tells everything.
+/// A source in memory, whose bytes and counts are known.
 #[derive(Debug, Drop)]
 pub struct ByteSource {
     bytes: Image,
@@ -113,11 +114,4 @@ fn copy_from(bytes: &[u8], at: usize, room: &mut [u8]) -> usize
     let n = left.len().min(room.len());
     room[..n].copy_from_slice(&left[..n]);
     n
-}
-
-/// Whether the number is one of the list.
-pub(crate) fn is_listed(numbers: &[u32], number: u64) -> bool
-    ensures { IsTrue result ↔ Contains numbers.now number }
-{
-    numbers.iter().any(|n| u64::from(*n) == number)
 }

@@ -15,7 +15,7 @@ pub struct Entry {
     pub value: Block,
 }
 
-/// The entries of a bucket. It has the room of 8, as many as a bucket may have, from the start: those are put without taking memory.
+/// The entries of a bucket. It has capacity for 8, as many as a bucket may have, so up to 8 are put without an allocation.
 #[derive(Debug, Drop)]
 pub struct Entries {
     items: Vec<Entry>,
@@ -53,6 +53,14 @@ impl Entries {
             Ok(()) => Ok(()),
             Err(_) => Err(NoMemory),
         }
+    }
+
+    /// Appends an entry within the capacity of 8.
+    pub fn push_reserved(&mut self, item: Entry)
+        requires { length self.old < 8 }
+        ensures { self.new ≡ self.old ++ item ∷ [] }
+    {
+        self.items.push_reserved(item);
     }
 
     /// Takes the last entry out.
@@ -94,8 +102,8 @@ pub struct Bucket {
     pub entries: Entries,
 }
 
-/// A write-back, as it is sent: the spellings of its buckets one after another, the nodes that they are of, the version of all and the
-/// nonce of the first, from which the others count on.
+/// A write-back, as it is sent: the encodings of its buckets one after another, their nodes, the version of all, and the nonce of the
+/// first bucket, from which the others count on.
 #[derive(Debug, Drop)]
 pub struct Order {
     pub version: u32,

@@ -1,6 +1,7 @@
 use crate::{
     Block, Bucket, BucketFault, ByteSink, ByteSource, Entries, Entry, Form, Image, Numbers,
-    ParamFault, Params, Sink, Source, on_path, path_node,
+    ParamFault, Params, Sink, Source, append_within, are_same, fill, is_listed, on_path, path_node,
+    write_all,
 };
 use std::test::Fail;
 
@@ -158,7 +159,7 @@ fn source_in_memory(rt: HostRuntime) -> Result<(), Fail> {
     Ok(())
 }
 
-// the room is taken first; a call that fails, and a write past the room
+// the capacity is used up; a call that fails, and a write past the capacity
 #[test]
 fn sink_in_memory(rt: HostRuntime) -> Result<(), Fail> {
     let alloc = rt.alloc();
@@ -170,5 +171,45 @@ fn sink_in_memory(rt: HostRuntime) -> Result<(), Fail> {
     assert_eq!(rt; sink.write(b"de").ok(), Some(1));
     assert!(rt; sink.write(b"e").is_err());
     assert_eq!(rt; sink.bytes(), b"abcd".as_slice());
+    Ok(())
+}
+
+// rooms that are filled, and one that the end cuts short; a call that fails
+#[test]
+fn rooms_filled(rt: HostRuntime) -> Result<(), Fail> {
+    let alloc = rt.alloc();
+    let bytes = Image::from_slice(alloc, b"abcde")?;
+    let mut source = ByteSource::new(bytes, Numbers::from_slice(alloc, &[1])?);
+    let mut room = [0u8; 3];
+    assert_eq!(rt; fill(&mut source, &mut room).ok(), Some(3));
+    assert_eq!(rt; room, [b'a', b'b', b'c']);
+    assert!(rt; fill(&mut source, &mut room).is_err());
+    assert_eq!(rt; fill(&mut source, &mut room).ok(), Some(2));
+    assert_eq!(rt; room[..2], [b'd', b'e'][..]);
+    Ok(())
+}
+
+// a text that is written whole, and one that is longer than the capacity
+#[test]
+fn texts_written(rt: HostRuntime) -> Result<(), Fail> {
+    let alloc = rt.alloc();
+    let mut sink = ByteSink::new(alloc, Numbers::new(alloc));
+    sink.reserve(5)?;
+    assert!(rt; write_all(&mut sink, b"abc").is_ok());
+    assert!(rt; write_all(&mut sink, b"def").is_err());
+    assert_eq!(rt; sink.bytes(), b"abcde".as_slice());
+    Ok(())
+}
+
+#[test]
+fn slices(rt: HostRuntime) -> Result<(), Fail> {
+    let alloc = rt.alloc();
+    let mut list = Vec::with_capacity(alloc, 3)?;
+    list.push_reserved(1u8);
+    append_within(&mut list, &[2, 3]);
+    assert!(rt; are_same(&list, &[1, 2, 3]));
+    assert!(rt; !are_same(&list, &[1, 2]));
+    assert!(rt; is_listed(&[4, 5], 5));
+    assert!(rt; !is_listed(&[4, 5], 4 + (1 << 32)));
     Ok(())
 }

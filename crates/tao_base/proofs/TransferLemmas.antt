@@ -1,0 +1,43 @@
+-- What several reads and writes did, one after another; and bytes that are the same.
+use Rattle.std.proofs.Common.{◌≡◌, ℕ, ◌==◌, ◌+◌, ◌-◌, ◌≤◌, true, ◌&&◌, List, [], ◌∷◌, ◌++◌, length, take, drop, Option, refl, sym, ap, ap₂, ◌∙◌, subst, arith, length-take}
+use Rattle.std.proofs.lemmas.List.{take-take, take-append-le, length-take-le, length-append}
+use Rattle.std.proofs.lemmas.Bool.{eqb-true, eq-eqb, and_parts, false≢true}
+use Rattle.std.proofs.Math.Seq.{take-add, take-append-add}
+use Rattle.std.specs.Io.KnownBytes.{Appends, Consumes}
+use Rattle.std.proofs.KnownBytes.{Appends-trans, Consumes-trans}
+use borrow.Rule.Slice.PartMut.{put_mid, post_of}
+use Rattle.tao_base.specs.Transfers.{PutsAll, same}
+
+-- a write of some of the bytes behind `at` makes the prefix that was put longer
+pub put_more : {K : Type 0} (put : K → Option (List ℕ)) (faults : K → ℕ) (a b c : K) (at n : ℕ) (bytes : List ℕ) → PutsAll put faults a b (take at bytes)
+    → n ≤ length (take (length bytes - at) (drop at bytes)) → Appends (put b) (put c) (take n (take (length bytes - at) (drop at bytes)))
+    → faults c ≡ faults b → PutsAll put faults a c (take (at + n) bytes)
+put_more put faults a b c at n bytes front within more kept =
+    let n_left : n ≤ length bytes - at = omega (arith, length-take (length bytes - at) (drop at bytes)) in
+    let joined : take at bytes ++ take n (take (length bytes - at) (drop at bytes)) ≡ take (at + n) bytes =
+    ap (λ rest. take at bytes ++ rest) (take-take n (length bytes - at) (drop at bytes) n_left) ∙ sym (take-add at n bytes) in
+    record {
+      whole = subst (Appends (put a) (put c)) joined (Appends-trans _ _ _ _ _ front.whole more);
+      unfailed = kept ∙ front.unfailed;
+    }
+
+-- a read of some bytes behind `at` makes the prefix of the room that came longer
+pub fill_more : (a b c : Option (List ℕ)) (at n k : ℕ) (room part : List ℕ) → at ≤ length room → n ≤ length part → Consumes a b (take at room) → Consumes b c (take n part)
+    → (at + n ≤ length (put_mid at k room part)) × Consumes a c (take (at + n) (put_mid at k room part))
+fill_more a b c at n k room part within few before more =
+    let long : length (take at room) ≡ at = length-take-le at room within in
+    let rest = post_of at k room in
+    let size : length (put_mid at k room part) ≡ at + (length part + length rest) = length-append (take at room) (part ++ rest) ∙ ap₂ (λ m n. m + n) long (length-append part rest) in
+    let front : take (at + n) (put_mid at k room part) ≡ take at room ++ take n part =
+    ap (λ m. take (m + n) (put_mid at k room part)) (sym long) ∙ take-append-add (take at room) (part ++ rest) n ∙ ap (λ ys. take at room ++ ys) (take-append-le n part rest few) in
+    (omega arith, subst (Consumes a c) (sym front) (Consumes-trans a b c (take at room) (take n part) before more))
+
+pub same_true : (xs ys : List ℕ) → same xs ys ≡ true → xs ≡ ys
+same_true [] [] h = refl
+same_true [] (y ∷ ys) h = absurd (false≢true h)
+same_true (x ∷ xs) [] h = absurd (false≢true h)
+same_true (x ∷ xs) (y ∷ ys) h = let both = and_parts (x == y) (same xs ys) h in ap₂ (λ a b. a ∷ b) (eqb-true x y both.0) (same_true xs ys both.1)
+
+pub same_self : (xs : List ℕ) → same xs xs ≡ true
+same_self [] = refl
+same_self (x ∷ xs) = ap₂ (λ a b. a && b) (eq-eqb x x refl) (same_self xs)
