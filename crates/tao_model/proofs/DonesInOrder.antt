@@ -1,4 +1,4 @@
--- Dones in order, and the last that touched a node. The events `es` are newest first.
+-- Dones in order, and the last Done that touched a node. The events `es` are newest first.
 use Rattle.std.proofs.Common.{◌≡◌, ℕ, ◌+◌, ◌-◌, ◌<◌, ◌≤◌, Bool, true, false, ◌||◌, List, [], ◌∷◌, ◌++◌, map, reverse, length, drop, get_or, Option, None, refl, sym, ap, ◌∙◌, subst, arith, inl, inr, ◌⊎◌, nat_lt, Any}
 use Rattle.std.specs.List.{filter_map, cons_option, list_any, range_with_len}
 use Rattle.std.proofs.lemmas.Bool.{cases_lt, ltb-true, lt-ltb, true≢false}
@@ -19,7 +19,7 @@ use Rattle.tao_model.specs.LookBacks.{done_of, done_arrivals, arrival_done, Last
 use Rattle.tao_model.proofs.GreatestNumbers.{greatest_step, greatest_none, greatest_same}
 use Rattle.tao_model.proofs.Places.{leaf_stays_later}
 
--- what is picked from a record's events, with one event more
+-- what is picked from a record's events after one more event
 pub picked_more : {Y : Type 0} (pick : Event → Option Y) (es : List Event) (e : Event)
     → filter_map pick (reverse (e ∷ es)) ≡ filter_map pick (reverse es) ++ cons_option (pick e) []
 picked_more pick es e = ap (filter_map pick) (reverse-append (e ∷ []) es) ∙ filter_map-append pick (reverse es) (e ∷ [])
@@ -35,7 +35,7 @@ dones_listed (Issue version nonce buckets ∷ es) = ap length (picked_same done_
 dones_listed (Acked version ∷ es) = ap length (picked_same done_of es (Acked version) refl) ∙ dones_listed es
 dones_listed (Fault cause ∷ es) = ap length (picked_same done_of es (Fault cause) refl) ∙ dones_listed es
 
--- one event more leaves the arrivals of the earlier Dones
+-- one more event keeps the arrivals of the earlier Dones
 done_stays_at : (es : List Event) (e : Event) (k : ℕ) → k < dones es → get_or (done_arrivals (reverse (e ∷ es))) k 0 ≡ get_or (done_arrivals (reverse es)) k 0
 done_stays_at es e k h =
     let len = dones_listed es in
@@ -44,7 +44,7 @@ done_stays_at es e k h =
 pub done_newest : (es : List Event) (arrival : ℕ) (taken : List Bucket) → get_or (done_arrivals (reverse (Done arrival taken ∷ es))) (dones es) 0 ≡ arrival
 done_newest es arrival taken = ap (λ l. get_or l (dones es) 0) (picked_more done_of es (Done arrival taken)) ∙ get_or_push (done_arrivals (reverse es)) arrival 0 (dones es) (dones_listed es)
 
--- each is of an arrival
+-- each Done belongs to an arrival
 pub done_below : (o : Opening) (es : List Event) (k : ℕ) → FollowsLawfully o es → k < dones es → get_or (done_arrivals (reverse es)) k 0 < arrived es
 done_below o [] k f h = absurd (omega arith)
 done_below o (Arrive client op word ∷ es) k f h = let below = done_below o es k f.0 h in rw (done_stays_at es (Arrive client op word) k h) (omega arith)
@@ -63,7 +63,7 @@ done_below o (Fault cause ∷ es) k f h = rw (done_stays_at es (Fault cause) k h
 
 -- ---- the last touch
 
--- whether the Done of this number took in a path that has the node
+-- whether the path of the Done with this number has the node
 abbrev touches : Opening → List Event → ℕ → ℕ → Bool
 touches o es node number = fetches o es (arrival_done (reverse es) number) node
 

@@ -1,8 +1,8 @@
 -- Places in a list of events, and the events before them.
 use Rattle.std.proofs.Common.{◌≡◌, ℕ, zero, suc, ◌+◌, ◌<◌, ◌≤◌, Bool, true, false, List, [], ◌∷◌, ◌++◌, reverse, length, take, drop, Some, refl, sym, ap, ◌∙◌, arith, inl, inr, ◌⊎◌, add-one}
 use Rattle.std.proofs.lemmas.Bool.{cases_eq, true≢false}
-use Rattle.std.proofs.lemmas.Option.{none-some, same_Some, slice_get_within, get_or_from_slice_get}
-use Rattle.std.proofs.lemmas.List.{reverse-append, take_more, take_all, take-take, take-append-drop, drop_more}
+use Rattle.std.proofs.lemmas.Option.{same_Some, slice_get_within, get_or_from_slice_get}
+use Rattle.std.proofs.lemmas.List.{reverse-append, take_more, take_all, take-append-drop, drop_more}
 use Rattle.tao_base.specs.declared.session.Event.{Event}
 use Rattle.tao_model.specs.WholeRecords.{IsAt, before}
 use Rattle.tao_model.proofs.RealArrivals.{looked_back}
@@ -15,14 +15,14 @@ before_more events p e at =
 pub before_all : (events : List Event) → before events (length events) ≡ reverse events
 before_all events = ap reverse (take_all (length events) events (omega arith))
 
--- the whole, looked back on, has the event and those before it at its end
+-- the reversed record ends with the event and those before it
 pub at_split : (events : List Event) (p : ℕ) (e : Event) → IsAt events p e → reverse events ≡ reverse (drop (p + 1) events) ++ e ∷ before events p
 at_split events p e at =
     ap reverse (sym (take-append-drop p events) ∙ ap (λ l. take p events ++ l) (drop_more events p e (slice_get_within events p e at)
     ∙ ap (λ x. x ∷ drop (p + 1) events) (get_or_from_slice_get events p e e at)))
     ∙ looked_back (take p events) (drop (p + 1) events) e
 
--- there is an event at each place
+-- every place of the list has an event
 pub some_at : (events : List Event) (p : ℕ) → p < length events → (e : Event) × IsAt events p e
 some_at [] p h = absurd (omega arith)
 some_at (e ∷ events) zero h = (e, refl)
@@ -31,24 +31,7 @@ some_at (e ∷ events) (suc p) h = some_at events p (omega arith)
 pub one_at : (events : List Event) (p : ℕ) (e f : Event) → IsAt events p e → IsAt events p f → e ≡ f
 one_at events p e f at there = same_Some e f (sym at ∙ there)
 
--- a front has what the whole has
-pub at_front : (events : List Event) (p q : ℕ) (e : Event) → p < q → IsAt events p e → IsAt (take q events) p e
-at_front [] p q e less at = absurd (none-some e at)
-at_front (x ∷ events) p zero e less at = absurd (omega arith)
-at_front (x ∷ events) zero (suc q) e less at = at
-at_front (x ∷ events) (suc p) (suc q) e less at = at_front events p q e (omega arith) at
-
-pub front_at : (events : List Event) (p q : ℕ) (e : Event) → IsAt (take q events) p e → IsAt events p e
-front_at [] p zero e at = at
-front_at [] p (suc q) e at = at
-front_at (x ∷ events) p zero e at = absurd (none-some e at)
-front_at (x ∷ events) zero (suc q) e at = at
-front_at (x ∷ events) (suc p) (suc q) e at = front_at events p q e at
-
-pub before_front : (events : List Event) (p q : ℕ) → p ≤ q → before (take q events) p ≡ before events p
-before_front events p q le = ap reverse (take-take p q events le)
-
--- the newest event before a place stands just before it
+-- the newest event before a place is the one at the previous place
 pub newest_at : (events : List Event) (p : ℕ) (e : Event) (es : List Event) → p ≤ length events → before events p ≡ e ∷ es
     → (q : ℕ) × (p ≡ q + 1) × IsAt events q e × (es ≡ before events q)
 newest_at events zero e es within h = absurd (nil_cons e es h)
@@ -64,9 +47,9 @@ newest_at events (suc q) e es within h =
     cons_parts : (x y : Event) (xs ys : List Event) → x ∷ xs ≡ y ∷ ys → (x ≡ y) × (xs ≡ ys)
     cons_parts x y xs ys k = (cc, cc)
 
--- ---- what a test of the events before a place says of them
+-- ---- tests of the events before a place
 
--- A test that an event of a kind, and such alone, makes pass, passes before a place where such an event stands before it.
+-- If only an event of one kind can make a test pass, and it passes before a place, such an event comes earlier.
 pub found_before : (passes : List Event → Bool) (Is : Event → Type 0) → passes [] ≡ false
     → ((e : Event) (es : List Event) → passes (e ∷ es) ≡ true → Is e ⊎ (passes es ≡ true)) → (events : List Event) (p : ℕ) → p ≤ length events
     → passes (before events p) ≡ true → (q : ℕ) × (e : Event) × (q < p) × IsAt events q e × Is e
@@ -85,7 +68,7 @@ found_before passes Is none step events (suc p) within h = either there.0 there.
     either e at (inl is) ih = (p, e, omega arith, at, is)
     either e at (inr earlier) ih = let rest = ih earlier in let less = rest.2 in (rest.0, rest.1, omega arith, rest.3, rest.4)
 
--- a test that passes once the event has come, and stays, passes before each later place
+-- a test that passes from an event on passes before every later place
 pub passes_before : (passes : List Event → Bool) → ((e : Event) (es : List Event) → passes es ≡ true → passes (e ∷ es) ≡ true)
     → (events : List Event) (q : ℕ) (e : Event) → IsAt events q e → passes (e ∷ before events q) ≡ true → (p : ℕ) → q < p → p ≤ length events → passes (before events p) ≡ true
 passes_before passes stays events q e at h zero less within = absurd (omega arith)

@@ -89,7 +89,7 @@ path_falls l leaf small = let some = pow_pos (l + 1) in top_falls l leaf (l + 1)
 
 -- ---- the greatest is the first of a falling list
 
--- `passes` passes no node off the list
+-- `passes` is false for every node that isn't in the list
 first_is : (passes : ℕ → Bool) (m : ℕ) (nodes : List ℕ) → Falls (m + 1) nodes → ((w : ℕ) → 0 < w → w ≤ m → passes w ≡ true → has w nodes ≡ true)
     → IsGreatest passes m (first_passing passes nodes)
 first_is passes m [] f on = record {
@@ -118,7 +118,7 @@ spot_is_first may m z contents b nodes f on =
     (first_is (λ w. may b w && nat_lt (length (contents w)) z) m nodes f
     (λ w low within is. on w low within (and_parts (may b w) (nat_lt (length (contents w)) z) is).0))
 
--- tests that agree on a list find the same first
+-- tests that agree on a list find the same first node
 first_same : (p q : ℕ → Bool) (nodes : List ℕ) → ((w : ℕ) → has w nodes ≡ true → p w ≡ q w) → first_passing p nodes ≡ first_passing q nodes
 first_same p q [] h = refl
 first_same p q (v ∷ nodes) h =

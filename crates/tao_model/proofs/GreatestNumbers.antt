@@ -3,7 +3,7 @@ use Rattle.std.proofs.Common.{◌≡◌, ℕ, ◌+◌, ◌<◌, ◌≤◌, Bool,
 use Rattle.std.proofs.lemmas.Bool.{cases_eq, cases_order, true≢false}
 use Rattle.tao_model.specs.Greatest.{IsGreatest}
 
--- one number more
+-- one more number
 pub greatest_step : (passes : ℕ → Bool) (m r : ℕ) (t : Bool) → passes (m + 1) ≡ t → IsGreatest passes m r → IsGreatest passes (m + 1) (cond t (m + 1) r)
 greatest_step passes m r true is d = record { within = omega arith; here = inr is; none = λ w above within. absurd (omega arith) }
 greatest_step passes m r false is d = record {
@@ -19,7 +19,7 @@ greatest_step passes m r false is d = record {
 pub greatest_none : (passes : ℕ → Bool) → IsGreatest passes 0 0
 greatest_none passes = record { within = omega arith; here = inl refl; none = λ w above within. absurd (omega arith) }
 
--- a test that is the same from 1 to m
+-- a test that agrees from 1 to m
 pub greatest_same : (f g : ℕ → Bool) (m r : ℕ) → ((w : ℕ) → 0 < w → w ≤ m → g w ≡ f w) → IsGreatest f m r → IsGreatest g m r
 greatest_same f g m r same d = record {
   within = d.within;

@@ -11,7 +11,7 @@ use Rattle.tao_model.specs.Stays.{ArrivalsStay, ReleasedGrows}
 use Rattle.tao_model.proofs.Stays.{client_stays, real_stays, used_stays, reply_stays, settler_stays}
 use Rattle.tao_model.proofs.Places.{stays_later, leaf_stays_later, arrived_grows}
 
--- how far a test passes, in words: all numbers below pass, and the number itself is the end or doesn't
+-- how far a test passes: for all numbers below, and then it fails or the range ends
 pub record IsLeading (passes : ℕ → Bool) (n r : ℕ) : Type 0 where
   pub within : r ≤ n
   pub below : (i : ℕ) → i < r → passes i ≡ true
@@ -50,7 +50,7 @@ leading_is passes zero = record { within = omega arith; below = λ i h. absurd (
 leading_is passes (suc n) = subst (λ k. IsLeading passes k (leading passes (suc n))) (omega arith)
     (leading_step passes n (leading passes n) (passes n) refl (leading_is passes n))
 
--- a test that passes more, further, leads further
+-- a weaker test over a longer range passes at least as far
 pub leading_grows : (f g : ℕ → Bool) (m n r s : ℕ) → IsLeading f m r → IsLeading g n s → m ≤ n → ((i : ℕ) → f i ≡ true → g i ≡ true) → r ≤ s
 leading_grows f g m n r s a b le more = either (cases_lt s r)
   where

@@ -33,7 +33,7 @@ last_on (Issue version nonce buckets ∷ es) block = last_on es block
 last_on (Acked version ∷ es) block = last_on es block
 last_on (Fault cause ∷ es) block = last_on es block
 
--- an arrival, where `t` says whether it is real and on the block
+-- one more arrival; `t` says whether it is real and on the block
 last_arrive : (es : List Event) (client : ℕ) (op : Op) (word block : ℕ) (t : Bool) → (real_now es op && names block op) ≡ t
     → IsLast (is_real_on es block) (arrived es) (last_on es block)
     → IsLast (is_real_on (Arrive client op word ∷ es) block) (arrived es + 1) (cond t (Some (arrived es)) (last_on es block))
@@ -52,7 +52,7 @@ last_so_far (Issue version nonce buckets ∷ es) block = last_so_far es block
 last_so_far (Acked version ∷ es) block = last_so_far es block
 last_so_far (Fault cause ∷ es) block = last_so_far es block
 
--- the place of the next word is that of the last real arrival's, or the block's first
+-- the next word's place is that of the last real arrival, or the block's first word
 next_is : (o : Opening) (es : List Event) (block : ℕ) → next_word o es block ≡ option_map_or (λ i. o.shape.n + i) (last_on es block) block
 next_is o [] block = refl
 next_is o (Arrive client op word ∷ es) block = either (real_now es op && names block op) (next_is o es block)
@@ -91,7 +91,7 @@ settler_real last new (Read id) = refl
 settler_real last new (Write id value) = refl
 settler_real last new Pad = refl
 
--- where no real arrival on the block came before, a new one on it is real
+-- if no real arrival on the block came before, a new one is real
 first_is_real : (es : List Event) (op : Op) (block : ℕ) → names block op ≡ true → ((i : ℕ) → i < arrived es → is_real_on es block i ≡ false) → real_now es op ≡ true
 first_is_real es op block named none = (free_means (is_on es) (is_real es) (is_done es) (arrived es) block op named).1
     (λ i below on real. absurd (true≢false (sym (and_from (is_real es i) (is_on es i block) real on) ∙ none i below)))

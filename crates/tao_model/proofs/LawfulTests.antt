@@ -133,7 +133,7 @@ owes_test o es = nat_lt (dones es) ((issues es + 1) * o.shape.k)
 owes_by : (o : Opening) (es : List Event) → owes_test o es ≡ true → OwesNone o es
 owes_by o es h = ltb-true (dones es) ((issues es + 1) * o.shape.k) h
 
--- a Fault is left out: it is refused
+-- a Fault fails the test
 abbrev may_test : Opening → List Event → Event → Bool
 may_test o es (Arrive client op word) = owes_test o es && (nat_lt (arrived es) (session_limit o.shape) && (nat_lt client 64 && op_test o.shape op))
 may_test o es (Done arrival taken) = owes_test o es && (nat_lt arrival (arrived es) && (not (is_done es arrival) && (same_numbers (nodes_in taken) (away_on_path o es arrival)

@@ -1,4 +1,4 @@
--- What goes on lawfully event by event has all that is said of whole records.
+-- A record that follows lawfully, event by event, is lawful as a whole.
 use Rattle.std.proofs.Common.{◌≡◌, ℕ, ◌+◌, ◌-◌, ◌*◌, ◌<◌, ◌≤◌, Bool, true, false, ◌||◌, List, [], ◌∷◌, ◌++◌, reverse, length, take, drop, Some, refl, sym, ap, ◌∙◌, subst, arith, inl, inr, ◌⊎◌, nat_eq, mul-le-mul_right}
 use Rattle.std.proofs.lemmas.Bool.{cases_lt, cases_eq, cases_order, true≢false, or_cases, eqb-true, eq-eqb}
 use Rattle.std.proofs.lemmas.Option.{slice_get_within}
@@ -48,16 +48,9 @@ ack_kept v (Acked version) es h = rw h (or_true (nat_eq version v))
     or_true false = refl
 ack_kept v (Fault cause) es h = h
 
-pub fault_kept : (e : Event) (es : List Event) → has_fault es ≡ true → has_fault (e ∷ es) ≡ true
-fault_kept (Arrive client op word) es h = h
-fault_kept (Done arrival taken) es h = h
-fault_kept (Issue version nonce buckets) es h = h
-fault_kept (Acked version) es h = h
-fault_kept (Fault cause) es h = refl
-
 -- ---- how Dones and write-backs keep pace
 
--- as many write-backs as full periods
+-- there are as many write-backs as full periods
 pub paced : (o : Opening) (es : List Event) → FollowsLawfully o es → issues es * o.shape.k ≤ dones es
 paced o [] f = omega arith
 paced o (Arrive client op word ∷ es) f = paced o es f.0
@@ -66,7 +59,7 @@ paced o (Issue version nonce buckets ∷ es) f = let due = f.2.due in let next =
 paced o (Acked version ∷ es) f = paced o es f.0
 paced o (Fault cause ∷ es) f = paced o es f.0
 
--- two products of one factor, where one is at most one step behind
+-- two multiples of k less than one step apart are equal
 pub same_factor : (k a b : ℕ) → 1 ≤ k → a * k < (b + 1) * k → b * k ≤ a * k → a ≡ b
 same_factor k a b some less more = either (cases_order a b)
   where
@@ -75,14 +68,14 @@ same_factor k a b some less more = either (cases_order a b)
     either (inr (inl low)) = let up : (a + 1) * k ≤ b * k = mul-le-mul_right k (omega arith) in absurd (omega arith)
     either (inr (inr high)) = let up : (b + 1) * k ≤ a * k = mul-le-mul_right k (omega arith) in absurd (omega arith)
 
--- the event of a Done that is the newest
+-- the newest event is a Done
 record IsNewestDone (es : List Event) : Type 0 where
   arrival : ℕ
   taken : List Bucket
   earlier : List Event
   is : es ≡ Done arrival taken ∷ earlier
 
--- where a write-back is due, the newest event is its Done
+-- if a write-back is due, the newest event is its Done
 newest_is_done : (o : Opening) (es : List Event) → FollowsLawfully o es → 1 ≤ o.shape.k → dones es ≡ (issues es + 1) * o.shape.k → IsNewestDone es
 newest_is_done o [] f some h = absurd (omega arith)
 newest_is_done o (Arrive client op word ∷ es) f some h = let owes = f.2.0 in absurd (omega arith)
@@ -94,7 +87,7 @@ newest_is_done o (Issue version nonce buckets ∷ es) f some h =
 newest_is_done o (Acked version ∷ es) f some h = let owes = f.2.0 in absurd (omega arith)
 newest_is_done o (Fault cause ∷ es) f some h = let owes = f.2.0 in absurd (omega arith)
 
--- where a write-back is due, nothing else may follow
+-- if a write-back is due, nothing else may follow
 record IsDue (o : Opening) (es : List Event) (e : Event) (version : ℕ) : Type 0 where
   nonce : ℕ
   buckets : List Bucket
@@ -119,7 +112,7 @@ few o (Fault cause ∷ es) f = few o es f.0
 
 -- ---- write-backs
 
--- whether there was a write-back of a version
+-- whether a version was written back
 abbrev pub has_version : List Event → ℕ → Bool
 has_version [] v = false
 has_version (Arrive client op word ∷ es) v = has_version es v
@@ -128,7 +121,7 @@ has_version (Issue version nonce buckets ∷ es) v = nat_eq version v || has_ver
 has_version (Acked version ∷ es) v = has_version es v
 has_version (Fault cause ∷ es) v = has_version es v
 
--- a write-back of each version so far
+-- each version so far was written back
 version_is_there : (o : Opening) (es : List Event) (v : ℕ) → FollowsLawfully o es → 0 < v → v ≤ issues es → has_version es v ≡ true
 version_is_there o [] v f some low = absurd (omega arith)
 version_is_there o (Arrive client op word ∷ es) v f some low = version_is_there o es v f.0 some low
@@ -165,9 +158,6 @@ module _ (o : Opening) (events : List Event) (f : FollowsLawfully o (reverse eve
   within : (p : ℕ) (e : Event) → IsAt events p e → p < length events
   within p e at = slice_get_within events p e at
 
-  before_follows : (p : ℕ) (e : Event) → IsAt events p e → FollowsLawfully o (before events p)
-  before_follows p e at = (follows_at o events p e f at).0
-
   period : 1 ≤ o.shape.k
   period = (follows_opening o (reverse events) f).shape.period_low
 
@@ -177,7 +167,7 @@ module _ (o : Opening) (events : List Event) (f : FollowsLawfully o (reverse eve
     made = λ p client op word at. let may = (follows_at o events p (Arrive client op word) f at).2 in (may.2, may.3);
   }
 
-  -- a Done that comes again isn't of an arrival under way
+  -- a repeated Done isn't of an arrival under way
   not_again : (p q arrival : ℕ) (taken other : List Bucket) → IsAt events p (Done arrival taken) → IsAt events q (Done arrival other) → p < q → ⊥
   not_again p q arrival taken other at there less =
       let again = passes_before (λ es. is_done es arrival) (λ e es h. done_kept arrival e es h) events p (Done arrival taken) at

@@ -1,4 +1,4 @@
--- The newest write of a node is that of the greatest version that has it. The events `es` are newest first.
+-- The latest version of a node is the greatest that has it. The events `es` are newest first.
 use Rattle.std.proofs.Common.{◌≡◌, ℕ, ◌+◌, ◌<◌, cond, List, [], ◌∷◌, ◌++◌, reverse, length, get_or, Option, Some, None, is_some, refl, sym, ap, ◌∙◌, subst, arith}
 use Rattle.std.specs.Option.{option_or}
 use Rattle.std.proofs.lemmas.List.{reverse-reverse, get_or_append_left, get_or_push, length_push}
@@ -29,12 +29,12 @@ versions_listed o (Issue version nonce buckets ∷ es) = ap length (written_more
 versions_listed o (Acked version ∷ es) = ap length (written_same o es (Acked version) refl) ∙ versions_listed o es
 versions_listed o (Fault cause ∷ es) = ap length (written_same o es (Fault cause) refl) ∙ versions_listed o es
 
--- what a record was, seen from its newest event back
+-- the two look-backs for one node agree with the list of write-backs
 record IsNewestOf (o : Opening) (told : List Event) (es : List Event) (node : ℕ) : Type 0 where
   version : IsGreatest (λ v. is_some (written_at o told v node)) (issues es) (newest_version es node)
   bucket : newest_write o es node ≡ written_at o told (newest_version es node) node
 
--- an event that writes nothing
+-- an event that isn't a write-back
 same_newest : (o : Opening) (es : List Event) (e : Event) (node : ℕ) → buckets_of e ≡ None → issues (e ∷ es) ≡ issues es → newest_version (e ∷ es) node ≡ newest_version es node
     → newest_write o (e ∷ es) node ≡ newest_write o es node → IsNewestOf o (reverse es) es node → IsNewestOf o (reverse (e ∷ es)) (e ∷ es) node
 same_newest o es e node none count version bucket h = record {
@@ -45,7 +45,7 @@ same_newest o es e node none count version bucket h = record {
       ∙ ap (λ l. bucket_of node (get_or l (newest_version (e ∷ es) node) [])) (sym (written_same o es e none));
 }
 
--- a write-back of the next version, where `b` is its bucket of the node
+-- a write-back of the next version; `b` is its bucket of the node
 newest_issue : (o : Opening) (es : List Event) (version nonce : ℕ) (buckets : List Bucket) (node : ℕ) (b : Option Bucket) → bucket_of node buckets ≡ b → version ≡ issues es + 1
     → IsNewestOf o (reverse es) es node → IsNewestOf o (reverse (Issue version nonce buckets ∷ es)) (Issue version nonce buckets ∷ es) node
 newest_issue o es version nonce buckets node b is next h = record {

@@ -14,7 +14,7 @@ use Rattle.tao_model.proofs.OnePlacement.{none_either}
 use Rattle.tao_model.proofs.FallingPaths.{has, has_below}
 use Rattle.tao_model.proofs.OnePass.{not_both, below_weaker, below_put, rises_put, look_put, look_put_other}
 
--- what was handed out of the entries of id below k
+-- what was handed out of the entries with ids below k
 record HandedBelow (passes : ℕ → Bool) (z : ℕ) (there : ℕ → Option (List ℕ)) (k : ℕ) (h : Handed) : Type 0 where
   taken_rises : Rises 0 h.taken
   rest_rises : Rises 0 h.rest
@@ -25,7 +25,7 @@ record HandedBelow (passes : ℕ → Bool) (z : ℕ) (there : ℕ → Option (Li
   room : length h.taken ≤ z
   full : (b : ℕ) → passes b ≡ true → is_some (look b h.rest) ≡ true → (length h.taken ≡ z) × Below b h.taken
 
--- a step, where `t` says whether the node takes the entry
+-- one step; `t` says whether the node takes the entry
 hand_step : (passes : ℕ → Bool) (z : ℕ) (there : ℕ → Option (List ℕ)) (k : ℕ) (h : Handed) (e : Entry) (t : Bool) → (passes e.id && nat_lt (length h.taken) z) ≡ t
     → HandedBelow passes z there k h → k ≤ e.id → there e.id ≡ Some e.value → ((b : ℕ) → k ≤ b → b < e.id → there b ≡ None)
     → HandedBelow passes z there (e.id + 1) (cond t (handed (h.taken ++ e ∷ []) h.rest) (handed h.taken (h.rest ++ e ∷ [])))
@@ -161,7 +161,7 @@ takes_lowest passes z stash = lowest_from passes z stash (handed [] []) ∙ ap (
 
 -- ---- node by node
 
--- what the nodes of a list are filled with, in words
+-- what filling the nodes of a list gives
 record IsFill (may : ℕ → ℕ → Bool) (z : ℕ) (nodes : List ℕ) (stash : List Entry) (contents : ℕ → List Entry) : Type 0 where
   place : ℕ → ℕ
   rises : (w : ℕ) → Rises 0 (contents w)
@@ -170,7 +170,7 @@ record IsFill (may : ℕ → ℕ → Bool) (z : ℕ) (nodes : List ℕ) (stash :
   room : (w : ℕ) → 0 < w → length (contents w) ≤ z
   full : (b w : ℕ) → is_some (look b stash) ≡ true → has w nodes ≡ true → may b w ≡ true → place b < w → (length (contents w) ≡ z) × Below b (contents w)
 
--- what is found in a list passes what all of it passes
+-- an entry found in a list passes whatever all of the list passes
 look_passes : (passes : ℕ → Bool) (b : ℕ) (x : List ℕ) (es : List Entry) → All (λ entry. passes entry.id ≡ true) es → look b es ≡ Some x → passes b ≡ true
 look_passes passes b x [] all found = absurd (none-some x found)
 look_passes passes b x (e ∷ es) all found = either (cases_eq e.id b)
@@ -192,7 +192,7 @@ module _ (may : ℕ → ℕ → Bool) (z k w : ℕ) (ws : List ℕ) (stash taken
   abbrev contents : ℕ → List Entry
   contents v = cond (nat_eq v w) taken (later v)
 
-  -- a block that the node didn't take lies where it lies later
+  -- a block that the node didn't take lies where the later nodes put it
   untaken : (b : ℕ) → look b taken ≡ None → (spots b ≡ f.place b) × (look b rest ≡ look b stash)
   untaken b gone = (ap (λ o. cond (is_some o) w (f.place b)) gone, either (h.either b))
     where

@@ -32,7 +32,7 @@ eviction_pass : (s : Shape) (path : List ℕ) (leaf : ℕ → ℕ) (old : ℕ �
     → IsPlaced (may_evict s.l path leaf old) (node_count s.l) s.z (first_copy (0 ∷ path) old) (one_pass (may_evict s.l path leaf old) (node_count s.l) s.z (gathered_from old (0 ∷ path)))
 eviction_pass s path leaf old = pass_places (may_evict s.l path leaf old) (node_count s.l) s.z (first_copy (0 ∷ path) old) (gathered_from old (0 ∷ path)) (eviction_gathers s.l path leaf old)
 
--- off the stash and the path a placement has nothing
+-- a placement has nothing outside the stash and the path
 off_path : (s : Shape) (path : List ℕ) (leaf : ℕ → ℕ) (old contents : ℕ → List Entry) → IsPlaced (may_evict s.l path leaf old) (node_count s.l) s.z (first_copy (0 ∷ path) old) contents
     → (w : ℕ) → has w (0 ∷ path) ≡ false → contents w ≡ []
 off_path s path leaf old contents p w off = none_lie (may_evict s.l path leaf old) (node_count s.l) s.z (first_copy (0 ∷ path) old) contents p w (λ b at. lies b at (p.allowed b))

@@ -35,7 +35,7 @@ load_gathers s leaf blocks = record {
 pub load_pass : (s : Shape) (leaf : ℕ → ℕ) (blocks : List (List ℕ)) → IsPlaced (may_load s leaf) (node_count s.l) s.z (block_below s.n blocks) (load_contents s leaf blocks)
 load_pass s leaf blocks = pass_places (may_load s leaf) (node_count s.l) s.z (block_below s.n blocks) (block_entries s.n blocks) (load_gathers s leaf blocks)
 
--- the entries at the nodes of buckets that are listed for a range of nodes
+-- the entries of node w in the buckets listed for a range of nodes
 listed_entries : (contents : ℕ → List Entry) (n a w : ℕ) → entries_at (map (first_bucket contents) (range_with_len a n)) w ≡ cond (not (nat_lt w a) && nat_lt w (a + n)) (contents w) []
 listed_entries contents zero a w = either (cases_lt w a)
   where

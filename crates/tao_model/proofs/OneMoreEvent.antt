@@ -1,4 +1,4 @@
--- One more event of a record, over the events newest first.
+-- One more event of a record. The events are newest first.
 use Rattle.std.proofs.Common.{◌≡◌, ℕ, ◌+◌, ◌-◌, ◌<◌, Bool, true, false, List, [], ◌∷◌, reverse, refl, sym, ap, ◌∙◌, arith, add-one}
 use Rattle.std.proofs.lemmas.Bool.{eq-eqb, le-ltb, eqb-true, true≢false}
 use Rattle.tao_base.specs.declared.calls.Op.{Op}

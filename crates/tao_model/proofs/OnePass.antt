@@ -19,7 +19,7 @@ deepest_is passes zero = greatest_none passes
 deepest_is passes (suc m) = subst (λ k. IsGreatest passes k (deepest passes (suc m))) (omega arith)
     (greatest_step passes m (deepest passes m) (passes (m + 1)) refl (deepest_is passes m))
 
--- a placement of the blocks of id below k
+-- a placement of the blocks with ids below k
 pub record PlacedBelow (may : ℕ → ℕ → Bool) (m z : ℕ) (gathered : ℕ → Option (List ℕ)) (k : ℕ) (contents : ℕ → List Entry) : Type 0 where
   place : ℕ → ℕ
   rises : (w : ℕ) → Rises 0 (contents w)
@@ -29,7 +29,7 @@ pub record PlacedBelow (may : ℕ → ℕ → Bool) (m z : ℕ) (gathered : ℕ 
   room : (w : ℕ) → 0 < w → length (contents w) ≤ z
   full : (b w : ℕ) → b < k → w ≤ m → may b w ≡ true → place b < w → (length (contents w) ≡ z) × Below b (contents w)
 
--- where a block goes, in words
+-- the node that `spot` finds
 record IsSpot (may : ℕ → ℕ → Bool) (m z : ℕ) (contents : ℕ → List Entry) (b at : ℕ) : Type 0 where
   within : at ≤ m
   here : (at ≡ 0) ⊎ ((may b at ≡ true) × (length (contents at) < z))
@@ -60,7 +60,7 @@ pub or_none : {X : Type 0} (o : Option X) → option_or o None ≡ o
 or_none None = refl
 or_none (Some x) = refl
 
--- ---- what putting an entry at a place does to a node, where `t` says that it is the node
+-- ---- putting an entry at a node; `t` says whether it is this node
 
 pub rises_put : (t : Bool) (es : List Entry) (e : Entry) → Rises 0 es → Below e.id es → Rises 0 (cond t (es ++ e ∷ []) es)
 rises_put true es e r l = rises_push 0 es e r l (omega arith)
@@ -82,7 +82,7 @@ look_put_other true es e b other = look_append b es (e ∷ []) ∙ ap (λ o. opt
 look_put_other false es e b other = refl
 
 module _ (may : ℕ → ℕ → Bool) (m z : ℕ) (gathered : ℕ → Option (List ℕ)) (among : (b w : ℕ) → may b w ≡ true → is_some (gathered b) ≡ true) where
-  -- one more entry, of the next id that is gathered
+  -- one more entry: the next gathered id
   put_step : (k : ℕ) (contents : ℕ → List Entry) (e : Entry) → PlacedBelow may m z gathered k contents → k ≤ e.id
       → gathered e.id ≡ Some e.value → ((b : ℕ) → k ≤ b → b < e.id → gathered b ≡ None)
       → PlacedBelow may m z gathered (e.id + 1) (put_next may m z contents e)

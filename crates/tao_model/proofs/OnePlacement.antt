@@ -1,4 +1,4 @@
--- There is at most one placement: lowest id first, two placements that agree on all lower ids agree on the next.
+-- There is at most one placement: two that agree on all lower ids agree on the next one.
 use Rattle.std.proofs.Common.{◌≡◌, ℕ, zero, suc, ◌<◌, ◌≤◌, Bool, true, false, cond, List, length, Option, Some, None, refl, sym, ap, ◌∙◌, arith, inl, inr, ◌⊎◌, nat_eq}
 use Rattle.std.proofs.lemmas.Bool.{eq-eqb, cases_lt, cases_order}
 use Rattle.tao_base.specs.declared.storage.Entry.{Entry}
@@ -10,12 +10,12 @@ pub none_either : {X : Type 0} (t : Bool) → cond {A = Option X} t None None �
 none_either true = refl
 none_either false = refl
 
--- a look-up is the same at each node where a gathered block lies in the same node
+-- a look-up agrees at every node if gathered blocks lie in the same nodes
 same_at : {X : Type 0} (i j w : ℕ) (g : Option X) → ((x : X) → g ≡ Some x → i ≡ j) → cond (nat_eq i w) g None ≡ cond (nat_eq j w) g None
 same_at i j w None h = none_either (nat_eq i w) ∙ sym (none_either (nat_eq j w))
 same_at i j w (Some x) h = ap (λ k. cond (nat_eq k w) (Some x) None) (h x refl)
 
--- two places agree on every gathered block below b
+-- two placements agree on every gathered block below b
 abbrev AgreeBelow : (ℕ → Option (List ℕ)) → (ℕ → ℕ) → (ℕ → ℕ) → ℕ → Type 0
 AgreeBelow gathered p q b = (c : ℕ) → c < b → (x : List ℕ) → gathered c ≡ Some x → p c ≡ q c
 

@@ -1,4 +1,4 @@
--- What a placement has at its nodes: gathered blocks alone.
+-- A placement has only gathered blocks at its nodes.
 use Rattle.std.proofs.Common.{◌≡◌, ℕ, ◌+◌, Bool, true, false, cond, List, [], ◌∷◌, All, Option, Some, None, refl, sym, ◌∙◌, arith, inl, inr, ◌⊎◌, nat_eq}
 use Rattle.std.proofs.lemmas.Bool.{ne_eqb, cases_eq}
 use Rattle.std.proofs.lemmas.Option.{none-some}
@@ -28,7 +28,7 @@ entries_are_gathered may m z gathered contents p w =
     (λ entry found. cond_some_is (nat_eq (p.place entry.id) w) (gathered entry.id) entry.value (sym (p.lies entry.id w) ∙ found))
     (contents w) (all_found 0 (contents w) (p.rises w))
 
--- where no block lies there is no entry
+-- a node that no block lies in has no entry
 pub none_lie : (may : ℕ → ℕ → Bool) (m z : ℕ) (gathered : ℕ → Option (List ℕ)) (contents : ℕ → List Entry) (p : IsPlaced may m z gathered contents) (w : ℕ)
     → ((b : ℕ) → p.place b ≡ w → ⊥) → contents w ≡ []
 none_lie may m z gathered contents p w off = same_entries 0 (contents w) [] (p.rises w) tt (λ b. p.lies b w ∙ rw (ne_eqb (p.place b) w (off b)) refl)

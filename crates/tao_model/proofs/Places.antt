@@ -1,4 +1,4 @@
--- Places of the tape that are there, and the facts of a lawful record that they rest on. The events are newest first.
+-- Places within the tape, and the facts of a lawful record that they rest on. The events are newest first.
 use Rattle.std.proofs.Common.{◌≡◌, ℕ, ◌+◌, ◌<◌, ◌≤◌, Bool, true, false, ◌&&◌, cond, List, [], ◌∷◌, ◌++◌, refl, ap, ◌∙◌, arith, inl, inr, ◌⊎◌}
 use Rattle.std.proofs.lemmas.Bool.{ne_eqb, eq-eqb, cases_lt}
 use Rattle.tao_base.specs.declared.calls.Op.{Op}
@@ -16,7 +16,7 @@ below_either : (n k p : ℕ) (b : Bool) → p < n + k → cond b (n + k) p < n +
 below_either n k p true h = omega arith
 below_either n k p false h = omega arith
 
--- the next word of a block is there
+-- the next word of a block is on the tape
 pub next_below : (o : Opening) (es : List Event) (block : ℕ) → block < o.shape.n → next_word o es block < o.shape.n + arrived es
 next_below o [] block h = omega arith
 next_below o (Arrive client op word ∷ es) block h =
@@ -26,7 +26,7 @@ next_below o (Issue version nonce buckets ∷ es) block h = next_below o es bloc
 next_below o (Acked version ∷ es) block h = next_below o es block h
 next_below o (Fault cause ∷ es) block h = next_below o es block h
 
--- the word of a new arrival is its own, or the next one of its block
+-- the word of a new arrival is its own or its block's next one
 pub word_for_below : (o : Opening) (es : List Event) (op : Op) (real : Bool) → IsInRange o.shape op
     → word_for (next_word o es) (o.shape.n + arrived es) real op < o.shape.n + (arrived es + 1)
 word_for_below o es (Read id) true h = let below = next_below o es id h in omega arith
@@ -35,7 +35,7 @@ word_for_below o es (Write id value) true h = let below = next_below o es id h.0
 word_for_below o es (Write id value) false h = omega arith
 word_for_below o es Pad real h = omega arith
 
--- the word that an arrival uses is there
+-- the word that an arrival uses is on the tape
 pub used_below : (o : Opening) (es : List Event) (i : ℕ) → FollowsLawfully o es → i < arrived es → word_used o es i < o.shape.n + arrived es
 used_below o [] i f h = absurd (omega arith)
 used_below o (Arrive client op word ∷ es) i f h = either (cases_lt i (arrived es)) (λ older. used_below o es i f.0 older)
@@ -49,7 +49,7 @@ used_below o (Issue version nonce buckets ∷ es) i f h = used_below o es i f.0 
 used_below o (Acked version ∷ es) i f h = used_below o es i f.0 h
 used_below o (Fault cause ∷ es) i f h = used_below o es i f.0 h
 
--- a Done is of an arrival
+-- a Done belongs to an arrival
 pub done_arrived : (o : Opening) (es : List Event) (i : ℕ) → FollowsLawfully o es → arrived es ≤ i → is_done es i ≡ false
 done_arrived o [] i f h = refl
 done_arrived o (Arrive client op word ∷ es) i f h = done_arrived o es i f.0 (omega arith)
@@ -59,7 +59,7 @@ done_arrived o (Issue version nonce buckets ∷ es) i f h = done_arrived o es i 
 done_arrived o (Acked version ∷ es) i f h = done_arrived o es i f.0 h
 done_arrived o (Fault cause ∷ es) i f h = done_arrived o es i f.0 h
 
--- the word of a block's position is there
+-- the word of a block's position is on the tape
 pub position_below : (o : Opening) (es : List Event) (block : ℕ) → FollowsLawfully o es → block < o.shape.n → position_word o es block < o.shape.n + arrived es
 position_below o [] block f h = omega arith
 position_below o (Arrive client op word ∷ es) block f h = let below = position_below o es block f.0 h in omega arith
@@ -72,7 +72,7 @@ position_below o (Issue version nonce buckets ∷ es) block f h = position_below
 position_below o (Acked version ∷ es) block f h = position_below o es block f.0 h
 position_below o (Fault cause ∷ es) block f h = position_below o es block f.0 h
 
--- ---- over any number of later events, `later` newest first
+-- ---- any number of later events, `later` newest first
 
 pub arrived_grows : (later es : List Event) → arrived es ≤ arrived (later ++ es)
 arrived_grows [] es = omega arith

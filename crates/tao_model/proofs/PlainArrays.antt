@@ -1,4 +1,4 @@
--- The plain array over a record's operations, and how far answers are released. The events `es` are newest first.
+-- The plain array after a record's operations, and how far answers are released. The events `es` are newest first.
 use Rattle.std.proofs.Common.{◌≡◌, ℕ, ◌+◌, ◌<◌, ◌≤◌, true, List, [], ◌∷◌, ◌++◌, reverse, length, take, get_or, fold, refl, sym, ap, ◌∙◌, arith, inl, inr, ◌⊎◌}
 use Rattle.std.proofs.lemmas.Bool.{ne_eqb, eq-eqb, cases_lt, true≢false}
 use Rattle.std.proofs.lemmas.List.{reverse-reverse, get_or_append_left, get_or_push, length_push, take-append-le, take_at}
@@ -37,7 +37,7 @@ array_folds o (Fault cause ∷ es) = array_folds o es ∙ ap (fold array_step o.
 pub array_is_fold : ArrayIsFold
 array_is_fold o events = array_folds o (reverse events) ∙ ap (λ told. array_after o.first (ops told)) (reverse-reverse events)
 
--- what the array answers to the operation at a place of a list
+-- what the array answers the operation at this place of a list
 abbrev answer_at : Opening → List Op → ℕ → Op → List ℕ
 answer_at o list i d = array_reply (array_after o.first (take i list)) (get_or list i d)
 

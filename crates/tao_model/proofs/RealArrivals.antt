@@ -20,7 +20,7 @@ use Rattle.tao_model.proofs.Places.{done_arrived, stays_later}
 use Rattle.tao_model.proofs.Growth.{done_stays}
 use Rattle.tao_model.proofs.OneMoreEvent.{done_word}
 
--- ---- whether some number below n passes, in words
+-- ---- whether some number below n passes
 
 pub none_passes : (passes : ℕ → Bool) (n : ℕ) → any_below passes n ≡ false → (i : ℕ) → i < n → passes i ≡ false
 none_passes passes zero h i below = absurd (omega arith)
@@ -42,7 +42,7 @@ pub passes_none : (passes : ℕ → Bool) (n : ℕ) → ((i : ℕ) → i < n →
 passes_none passes zero h = refl
 passes_none passes (suc n) h = rw (h n (omega arith)) (passes_none passes n (λ i below. h i (omega arith)))
 
--- ---- what it means that no real arrival on a block is under way
+-- ---- no real arrival on a block is under way
 
 -- each earlier real arrival on the block is done
 abbrev pub AllDone : (ℕ → ℕ → Bool) → (ℕ → Bool) → (ℕ → Bool) → ℕ → ℕ → Type 0
@@ -88,7 +88,7 @@ real_newest es client op word = rw (eq-eqb (arrived es) (arrived es) refl) refl
 pub on_newest : (es : List Event) (client : ℕ) (op : Op) (word block : ℕ) → is_on (Arrive client op word ∷ es) (arrived es) block ≡ names block op
 on_newest es client op word block = rw (eq-eqb (arrived es) (arrived es) refl) refl
 
--- a record with an arrival in it, looked back on
+-- a record split at one event, reversed
 pub looked_back : (before after : List Event) (e : Event) → reverse (before ++ e ∷ after) ≡ reverse after ++ e ∷ reverse before
 looked_back before after e =
     reverse-append before (e ∷ after) ∙ ap (λ l. l ++ reverse before) (reverse-append (e ∷ []) after) ∙ append_assoc (reverse after) (e ∷ []) (reverse before)
@@ -104,9 +104,9 @@ real_means before after client op word block named =
         (reverse after) (Arrive client op word ∷ reverse before) (omega arith)
         ∙ real_newest (reverse before) client op word
 
--- ---- of two real arrivals on a block the earlier is done
+-- ---- of two real arrivals on a block the earlier one is done
 
--- an arrival that is on a block has an operation that names it
+-- of two real arrivals on a block, the earlier one is done once the later one comes
 pub earlier_done : (es : List Event) (j i block : ℕ) → j < arrived es → is_on es j block ≡ true → is_real es j ≡ true → i < j → is_on es i block ≡ true → is_real es i ≡ true
     → is_done es i ≡ true
 earlier_done [] j i block below on real less on_i real_i = absurd (omega arith)
@@ -135,7 +135,7 @@ record IsPlaceOf (o : Opening) (es : List Event) (block : ℕ) : Type 0 where
   is_last : IsLast (has_moved es block) (arrived es) last
   place : position_word o es block ≡ option_map_or (λ i. o.shape.n + i) last block
 
--- a test that is the same below n, and fails from n to m
+-- two tests that agree below n have the same last number if the second one fails from n to m
 pub last_same : (f g : ℕ → Bool) (n m : ℕ) (last : Option ℕ) → ((i : ℕ) → i < n → g i ≡ f i) → ((i : ℕ) → n ≤ i → i < m → g i ≡ false) → n ≤ m → IsLast f n last → IsLast g m last
 last_same f g n m None same new le h = λ i below. either i below (cases_lt i n)
   where
@@ -158,7 +158,7 @@ place_arrive o es client op word block f p = record {
   place = p.place;
 }
 
--- a Done, where `t` says whether its arrival is real and on the block
+-- a Done; `t` says whether its arrival is real and on the block
 place_done : (o : Opening) (es : List Event) (arrival : ℕ) (taken : List Bucket) (block : ℕ) (t : Bool) → (is_real es arrival && is_on es arrival block) ≡ t
     → arrival < arrived es → is_done es arrival ≡ false → IsPlaceOf o es block → IsPlaceOf o (Done arrival taken ∷ es) block
 place_done o es arrival taken block true is there under_way p = record {

@@ -1,4 +1,4 @@
--- What later events leave as it was. The events are newest first.
+-- What later events don't change. The events are newest first.
 use Rattle.std.proofs.Common.{◌≡◌, ℕ, ◌+◌, ◌-◌, ◌<◌, ◌≤◌, List, [], ◌∷◌, ◌++◌, reverse, refl, arith, inl, inr, ◌⊎◌}
 use Rattle.std.proofs.lemmas.Bool.{ne_eqb, lt-ltb, le-ltb, cases_lt}
 use Rattle.std.proofs.lemmas.List.{reverse-append}
@@ -9,7 +9,7 @@ use Rattle.tao_model.specs.Events.{arrived, is_on, is_pad, client_of, word_of, w
 use Rattle.tao_model.specs.Requests.{is_real, settler, word_used}
 use Rattle.tao_model.specs.Replies.{plain_reply}
 
--- one more event of a record is the first of those that are newest first
+-- an event appended to a record comes first in the reversed list
 pub newest_first : (events : List Event) (e : Event) → reverse (events ++ e ∷ []) ≡ e ∷ reverse events
 newest_first events e = reverse-append events (e ∷ [])
 
@@ -69,7 +69,7 @@ reply_stays o es (Issue version nonce buckets) i h = refl
 reply_stays o es (Acked version) i h = refl
 reply_stays o es (Fault cause) i h = refl
 
--- the word at a place that is there
+-- one more event keeps the word at a place of the tape
 pub place_stays : (o : Opening) (es : List Event) (e : Event) (place : ℕ) → place < o.shape.n + arrived es → word_at o (e ∷ es) place ≡ word_at o es place
 place_stays o es e place h = either (cases_lt place o.shape.n)
   where

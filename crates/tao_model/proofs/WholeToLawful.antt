@@ -1,4 +1,4 @@
--- A list of events of which all holds that is said of whole records goes on lawfully, event by event.
+-- A list of events that is lawful as a whole follows lawfully, event by event.
 use Rattle.std.proofs.Common.{◌≡◌, ℕ, zero, suc, ◌+◌, ◌-◌, ◌*◌, ◌<◌, ◌≤◌, Bool, true, false, ◌||◌, List, [], ◌∷◌, ◌++◌, reverse, length, take, drop, Some, refl, sym, ap, ◌∙◌, subst, arith, inl, inr, ◌⊎◌, nat_eq, add-one}
 use Rattle.std.proofs.lemmas.Bool.{cases_lt, true≢false, or_cases, eqb-true, eq-eqb, false_from_ne_true}
 use Rattle.std.proofs.lemmas.Option.{slice_get_within}
@@ -16,7 +16,7 @@ use Rattle.tao_model.proofs.DonesInOrder.{touched_are_nodes}
 use Rattle.tao_model.proofs.EventPlaces.{before_more, before_all, at_split, some_at, one_at, found_before, passes_before}
 use Rattle.tao_model.proofs.LawfulToWhole.{same_factor, paced, has_version, lawful_to_whole}
 
--- ---- what passed before a place names an event that stands there
+-- ---- if a test passes before a place, the event that made it pass comes earlier
 
 abbrev IsDoneOf : ℕ → Event → Type 0
 IsDoneOf i e = (taken : List Bucket) × (e ≡ Done i taken)
@@ -64,7 +64,7 @@ version_kept v (Issue version nonce buckets) es h = rw h (or_true (nat_eq versio
 version_kept v (Acked version) es h = h
 version_kept v (Fault cause) es h = h
 
--- a write-back's version is one of those so far
+-- a version that was written back is one of those so far
 version_within : (o : Opening) (es : List Event) (v : ℕ) → FollowsLawfully o es → has_version es v ≡ true → (0 < v) × (v ≤ issues es)
 version_within o [] v f h = absurd (true≢false (sym h))
 version_within o (Arrive client op word ∷ es) v f h = version_within o es v f.0 h
@@ -80,7 +80,7 @@ version_within o (Fault cause ∷ es) v f h = version_within o es v f.0 h
 -- ---- place by place
 
 module _ (o : Opening) (events : List Event) (is : IsOpening o) (w : IsLawfulWhole o events) where
-  -- before a place whose event is the write-back that is due
+  -- the next event has to be the write-back that is due
   record IsOwing (p : ℕ) : Type 0 where
     done_at : ℕ
     arrival : ℕ
@@ -106,13 +106,13 @@ module _ (o : Opening) (events : List Event) (is : IsOpening o) (w : IsLawfulWho
       let last = w.faults.last found.0 found.4.0 (found.3 ∙ ap (λ e. Some e) found.4.1) in
       omega arith)
 
-  -- what is due comes at once
+  -- a write-back that is due comes at once
   due_comes : (p : ℕ) → IsOwing p → (version nonce : ℕ) × (buckets : List Bucket) × IsAt events p (Issue version nonce buckets)
   due_comes p owing =
       let next = w.issues.each owing.done_at owing.arrival (issues (before events p) + 1) owing.taken owing.there (subst (λ q. dones (before events q) ≡ (issues (before events p) + 1) * o.shape.k) owing.place owing.due) in
       (issues (before events p) + 1, next.0, next.1, subst (λ q. IsAt events q (Issue (issues (before events p) + 1) next.0 next.1)) (sym owing.place) next.2)
 
-  -- an event that is no write-back comes where none is due
+  -- an event other than a write-back comes only if none is due
   owes_none : (p : ℕ) (e : Event) → IsAt events p e → ((version nonce : ℕ) (buckets : List Bucket) → e ≡ Issue version nonce buckets → ⊥)
       → OwesNone o (before events p) ⊎ IsOwing p → OwesNone o (before events p)
   owes_none p e at other (inl owes) = owes
@@ -205,7 +205,7 @@ module _ (o : Opening) (events : List Event) (is : IsOpening o) (w : IsLawfulWho
   may_fail : (p : ℕ) (cause : Cause) → IsAt events p (Fault cause) → IsSo p → MayFollow o (before events p) (Fault cause)
   may_fail p cause at so = (owes_none p (Fault cause) at (λ version nonce buckets same. cc) so.owes, w.faults.named p cause at)
 
-  -- what may follow leaves as much due as before, but for a Done and its write-back
+  -- an event that is neither a Done nor a write-back changes nothing about what is due
   owes_still : (p : ℕ) (e : Event) → IsAt events p e → OwesNone o (before events p) → dones (e ∷ before events p) ≡ dones (before events p)
       → issues (e ∷ before events p) ≡ issues (before events p) → OwesNone o (before events (p + 1)) ⊎ IsOwing (p + 1)
   owes_still p e at owes count same = inl (subst (OwesNone o) (sym (before_more events p e at)) (rw (count, same) owes))

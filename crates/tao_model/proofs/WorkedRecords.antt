@@ -1,4 +1,4 @@
--- The worked records are lawful, by tests that compute.
+-- The worked records are lawful: the tests compute it.
 use Rattle.std.proofs.Common.{refl}
 use Rattle.tao_model.specs.Worked.{one_read, read_write_read, full_path, overlapping_requests, write_backs_out_of_order, kept_under_a_fetch, no_write_back_before_the_period}
 use Rattle.tao_model.specs.WorkedLawful.{WorkedAreLawful}

@@ -1,5 +1,5 @@
--- What a record has come to: how many events of each kind, and what is known of one arrival.
--- Every function that looks back takes the events newest first. The record itself is oldest first: give it `reverse`.
+-- What a record has come to: counts of events, and what is known of one arrival.
+-- Look-back functions take the events newest first. A record is oldest first: give them `reverse`.
 use Rattle.std.specs.Prelude.{ℕ, ◌+◌, ◌-◌, ◌<◌, ◌==◌, nat_lt, Bool, true, false, ◌||◌, if◌then◌else◌, List, [], ◌∷◌, length, slice_index, ⊤}
 use Rattle.tao_base.specs.declared.calls.Op.{Op}
 use Rattle.tao_base.specs.declared.calls.Op.TheVariants.{Read, Write, Pad}
@@ -16,7 +16,7 @@ arrived (Issue version nonce buckets ∷ es) = arrived es
 arrived (Acked version ∷ es) = arrived es
 arrived (Fault cause ∷ es) = arrived es
 
--- the number of fetched paths that were taken in; the newest Done has this number
+-- the number of fetched paths that were admitted; the newest Done has this number
 abbrev pub dones : List Event → ℕ
 dones [] = 0
 dones (Arrive client op word ∷ es) = dones es
@@ -25,7 +25,7 @@ dones (Issue version nonce buckets ∷ es) = dones es
 dones (Acked version ∷ es) = dones es
 dones (Fault cause ∷ es) = dones es
 
--- the number of write-backs that were issued
+-- the number of write-backs
 abbrev pub issues : List Event → ℕ
 issues [] = 0
 issues (Arrive client op word ∷ es) = issues es
@@ -52,7 +52,7 @@ acks (Issue version nonce buckets ∷ es) = acks es
 acks (Acked version ∷ es) = acks es + 1
 acks (Fault cause ∷ es) = acks es
 
--- whether something has failed: there is a Fault among the events
+-- whether there is a Fault
 abbrev pub has_fault : List Event → Bool
 has_fault [] = false
 has_fault (Arrive client op word ∷ es) = has_fault es
@@ -61,7 +61,7 @@ has_fault (Issue version nonce buckets ∷ es) = has_fault es
 has_fault (Acked version ∷ es) = has_fault es
 has_fault (Fault cause ∷ es) = true
 
--- whether this arrival's fetched path was taken in
+-- whether this arrival's fetched path was admitted
 abbrev pub is_done : List Event → ℕ → Bool
 is_done [] i = false
 is_done (Arrive client op word ∷ es) i = is_done es i

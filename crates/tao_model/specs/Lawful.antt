@@ -17,7 +17,7 @@ use Rattle.tao_model.specs.Residence.{last_touch, is_resident, newest_version}
 use Rattle.tao_model.specs.Trace.{nodes_in}
 use Rattle.tao_model.specs.Placement.{Rises, IsLoad}
 
--- a bucket that the store may write: of a node of the tree, with at most z entries, their ids rising and below n, their values of b bytes
+-- a bucket that the store may write: a node of the tree, at most z entries with rising ids below n and values of b bytes
 pub record IsInForm (s : Shape) (bucket : Bucket) : Type 0 where
   pub low : 1 ≤ bucket.node
   pub high : bucket.node ≤ node_count s.l
@@ -26,7 +26,7 @@ pub record IsInForm (s : Shape) (bucket : Bucket) : Type 0 where
   pub ids : All (λ entry. entry.id < s.n) bucket.entries
   pub values : All (λ entry. length entry.value ≡ s.b) bucket.entries
 
--- an operation that the store takes
+-- an operation that the store accepts
 abbrev pub IsInRange : Shape → Op → Type 0
 IsInRange s (Read id) = id < s.n
 IsInRange s (Write id value) = (id < s.n) × (length value ≡ s.b)
@@ -45,20 +45,20 @@ pub record IsNumbered (o : Opening) : Type 0 where
   pub versions : All (λ bucket. bucket.version ≡ 0) o.loaded
   pub nonces : map (λ bucket. bucket.nonce) o.loaded ≡ range_with_len 1 (node_count o.shape.l)
 
--- the tree was loaded with the placement of all blocks by the first words
+-- the tree was loaded with the placement of all blocks by their first words
 pub record OpensWithLoad (o : Opening) : Type 0 where
   pub numbered : IsNumbered o
   pub in_form : All (IsInForm o.shape) o.loaded
   pub placed : IsLoad o.shape (λ block. leaf_at o [] block) o.first o.loaded
 
--- a fetch that has the node on its path while the proxy doesn't hold it: of an arrival under way, or of a leaf of the scan when all is done
+-- a fetch reads the node from the server: a fetch under way, or one of the scan when all is done
 abbrev pub IsAwayOn : Opening → List Event → ℕ → ℕ → Type 0
 IsAwayOn o es fetch node = (is_resident o es node ≡ false)
     × (((fetch < arrived es) × (is_done es fetch ≡ false) × (fetches o es fetch node ≡ true))
     ⊎ ((leaf : ℕ) × (leaf < 2 ^ o.shape.l) × (fetch ≡ 2 ^ 32 + leaf) × (is_on_path o.shape.l leaf node ≡ true) × (dones es ≡ arrived es) × (acks es ≡ issues es)))
 
--- A cause that can be: a damaged or a stale bucket is of a node that this fetch needs from the server, and a stale one has another version
--- than the node's newest write. Any link may fail, at any time.
+-- A cause that is possible: a damaged or stale bucket is of a node that this fetch reads from the server,
+-- and a stale one isn't the node's latest version. Any link may fail, at any time.
 abbrev pub MayFail : Opening → List Event → Cause → Type 0
 MayFail o es (Damaged fetch node fault) = IsAwayOn o es fetch node
 MayFail o es (Stale fetch node wanted found) = IsAwayOn o es fetch node × (wanted ≡ newest_version es node) × (found ≢ wanted)
@@ -68,11 +68,11 @@ MayFail o es (Link link) = ⊤
 abbrev pub away_on_path : Opening → List Event → ℕ → List ℕ
 away_on_path o es arrival = filter (λ node. not (is_resident o es node)) (path o.shape.l (fetched_leaf o es arrival))
 
--- the nodes that were touched after the Done of this number, rising
+-- the nodes touched after the Done of this number, rising
 abbrev pub touched_after : Opening → List Event → ℕ → List ℕ
 touched_after o es number = filter (λ node. nat_lt number (last_touch o es node)) (range_with_len 1 (node_count o.shape.l))
 
--- Done: of an arrival under way, with the nodes of its path that the proxy doesn't hold, each in form and of its newest version
+-- Done: of an arrival under way, with the nodes of its path that the proxy doesn't hold, each in form and of its latest version
 pub record MayBeDone (o : Opening) (es : List Event) (arrival : ℕ) (taken : List Bucket) : Type 0 where
   pub arrived : arrival < arrived es
   pub under_way : is_done es arrival ≡ false
@@ -80,7 +80,7 @@ pub record MayBeDone (o : Opening) (es : List Event) (arrival : ℕ) (taken : Li
   pub in_form : All (IsInForm o.shape) taken
   pub versions : All (λ bucket. bucket.version ≡ newest_version es bucket.node) taken
 
--- Issue: the next version, directly after its Done, with the nodes touched since the last one, and nonces that count on
+-- Issue: the next version, right after its Done, with the nodes touched since the last one, and with consecutive nonces
 pub record MayBeIssued (o : Opening) (es : List Event) (version start : ℕ) (buckets : List Bucket) : Type 0 where
   pub next : version ≡ issues es + 1
   pub due : dones es ≡ version * o.shape.k
@@ -90,11 +90,11 @@ pub record MayBeIssued (o : Opening) (es : List Event) (version start : ℕ) (bu
   pub counts_on : start ≡ node_count o.shape.l + 1 + buckets_issued es
   pub nonces : map (λ bucket. bucket.nonce) buckets ≡ range_with_len start (length buckets)
 
--- no write-back is due: fewer Dones than would fill the next period
+-- no write-back is due: the next period isn't full yet
 abbrev pub OwesNone : Opening → List Event → Type 0
 OwesNone o es = dones es < (issues es + 1) * o.shape.k
 
--- An event may follow these, the newest first. Nothing follows a Fault, and nothing but its write-back a Done that owes one.
+-- This event may come next. Nothing follows a Fault, and a Done that fills a period is followed by its write-back.
 abbrev pub MayFollow : Opening → List Event → Event → Type 0
 MayFollow o es (Arrive client op word) = OwesNone o es × (arrived es < session_limit o.shape) × (client < 64) × IsInRange o.shape op
 MayFollow o es (Done arrival taken) = OwesNone o es × MayBeDone o es arrival taken
@@ -107,7 +107,7 @@ abbrev pub FollowsLawfully : Opening → List Event → Type 0
 FollowsLawfully o [] = IsOpening o
 FollowsLawfully o (e ∷ es) = FollowsLawfully o es × (has_fault es ≡ false) × MayFollow o es e
 
--- a lawful record: it opens with the load, goes on lawfully, and doesn't end with a Done that owes its write-back
+-- a lawful record: it opens with the load, follows lawfully, and doesn't end with a write-back due
 pub record IsLawful (h : History) : Type 0 where
   pub opens : OpensWithLoad h.opening
   pub follows : FollowsLawfully h.opening (reverse h.events)

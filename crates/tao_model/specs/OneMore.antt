@@ -1,4 +1,4 @@
--- One more event: what each function that looks back on a record becomes. The events before it, `es`, are newest first.
+-- One more event: how each look-back function changes. The events before it, `es`, are newest first.
 use Rattle.std.specs.Prelude.{◌≡◌, ℕ, ◌+◌, ◌<◌, ◌≤◌, true, false, not, ◌&&◌, ◌||◌, if◌then◌else◌, List, [], ◌∷◌, ◌++◌, reverse}
 use Rattle.std.specs.Option.{option_or}
 use Rattle.tao_base.specs.declared.calls.Op.{Op}
@@ -16,17 +16,17 @@ use Rattle.tao_model.specs.Replies.{array_now, plain_reply, released}
 use Rattle.tao_model.specs.Residence.{last_touch, is_resident, departs, newest_write, bucket_of}
 use Rattle.tao_model.specs.Lawful.{FollowsLawfully}
 
--- the proxy's nodes, the newest writes and the touches are as they were
+-- the held nodes, the latest versions and the touches are unchanged
 pub record SameNodes (o : Opening) (before now : List Event) : Type 0 where
   pub touch : (node : ℕ) → last_touch o now node ≡ last_touch o before node
   pub resident : (node : ℕ) → is_resident o now node ≡ is_resident o before node
   pub written : (node : ℕ) → newest_write o now node ≡ newest_write o before node
 
--- the position map is as it was
+-- the position map is unchanged
 abbrev pub SamePositions : Opening → List Event → List Event → Type 0
 SamePositions o before now = (block : ℕ) → block < o.shape.n → position o now block ≡ position o before block
 
--- An arrival is real where no real one on its block is under way, and then fetches the leaf of its block's next word; else that of its own.
+-- An arrival is real if no real one on its block is under way, and uses its block's next word. A fake one uses its own.
 pub record AfterArrive (o : Opening) (es now : List Event) (op : Op) (word : ℕ) : Type 0 where
   pub real : is_real now (arrived es) ≡ real_now es op
   pub used : word_used o now (arrived es) ≡ word_for (next_word o es) (o.shape.n + arrived es) (real_now es op) op
@@ -38,7 +38,7 @@ pub record AfterArrive (o : Opening) (es now : List Event) (op : Op) (word : ℕ
   pub nodes : SameNodes o es now
   pub positions : SamePositions o es now
 
--- A Done touches the nodes of its path and brings them; a real one gives its block the position of its own word.
+-- A Done touches the nodes of its path and brings them in. A real one gives its block the position of its own word.
 pub record AfterDone (o : Opening) (es now : List Event) (arrival : ℕ) : Type 0 where
   pub touch : (node : ℕ) → last_touch o now node ≡ (if fetches o es arrival node then dones es + 1 else last_touch o es node)
   pub resident : (node : ℕ) → is_resident o now node ≡ (is_resident o es node || fetches o es arrival node)
@@ -47,7 +47,7 @@ pub record AfterDone (o : Opening) (es now : List Event) (arrival : ℕ) : Type 
   pub kept : (block : ℕ) → block < o.shape.n → (is_real es arrival && is_on es arrival block) ≡ false → position o now block ≡ position o es block
   pub released : released es ≤ released now
 
--- A write-back's buckets are the newest writes of their nodes.
+-- A write-back's buckets become the latest versions of their nodes.
 pub record AfterIssue (o : Opening) (es now : List Event) (buckets : List Bucket) : Type 0 where
   pub touch : (node : ℕ) → last_touch o now node ≡ last_touch o es node
   pub resident : (node : ℕ) → is_resident o now node ≡ is_resident o es node
@@ -63,41 +63,41 @@ pub record AfterAcked (o : Opening) (es now : List Event) (version : ℕ) : Type
   pub positions : SamePositions o es now
   pub released : released now ≡ released es
 
--- A Fault leaves nodes, positions and the released count as they were.
+-- A Fault leaves nodes, positions and the released count unchanged.
 pub record AfterFault (o : Opening) (es now : List Event) : Type 0 where
   pub nodes : SameNodes o es now
   pub positions : SamePositions o es now
   pub released : released now ≡ released es
 
--- what the record with one more event is, looked back on
+-- a record with one more event, newest first
 abbrev pub with_one_more : List Event → Event → List Event
 with_one_more events e = reverse (events ++ e ∷ [])
 
--- where a record with one more arrival follows lawfully, `AfterArrive` says what that arrival is and what it changes
+-- if a record with one more arrival follows lawfully, `AfterArrive` holds
 abbrev pub OneMoreArrive : Type 0
 OneMoreArrive = (o : Opening) (events : List Event) (client : ℕ) (op : Op) (word : ℕ) → FollowsLawfully o (with_one_more events (Arrive client op word))
     → AfterArrive o (reverse events) (with_one_more events (Arrive client op word)) op word
 
--- the same of one more Done, by `AfterDone`
+-- the same for one more Done
 abbrev pub OneMoreDone : Type 0
 OneMoreDone = (o : Opening) (events : List Event) (arrival : ℕ) (taken : List Bucket) → FollowsLawfully o (with_one_more events (Done arrival taken))
     → AfterDone o (reverse events) (with_one_more events (Done arrival taken)) arrival
 
--- the same of one more write-back, by `AfterIssue`
+-- the same for one more write-back
 abbrev pub OneMoreIssue : Type 0
 OneMoreIssue = (o : Opening) (events : List Event) (version nonce : ℕ) (buckets : List Bucket) → FollowsLawfully o (with_one_more events (Issue version nonce buckets))
     → AfterIssue o (reverse events) (with_one_more events (Issue version nonce buckets)) buckets
 
--- the same of one more acknowledgement, by `AfterAcked`
+-- the same for one more acknowledgement
 abbrev pub OneMoreAcked : Type 0
 OneMoreAcked = (o : Opening) (events : List Event) (version : ℕ) → FollowsLawfully o (with_one_more events (Acked version))
     → AfterAcked o (reverse events) (with_one_more events (Acked version)) version
 
--- the same of one more Fault, by `AfterFault`
+-- the same for one more Fault
 abbrev pub OneMoreFault : Type 0
 OneMoreFault = (o : Opening) (events : List Event) (cause : Cause) → FollowsLawfully o (with_one_more events (Fault cause))
     → AfterFault o (reverse events) (with_one_more events (Fault cause))
 
--- a pad is on no block, so its fetch is never for one
+-- a pad is on no block and never real
 abbrev pub PadsAreFake : Type 0
 PadsAreFake = (events : List Event) (client word : ℕ) → is_real (with_one_more events (Arrive client Pad word)) (arrived (reverse events)) ≡ false

@@ -1,4 +1,4 @@
--- Ways to compute a placement: what is gathered, one pass in rising id, and node by node from the greatest on. Node 0 is the stash.
+-- Ways to compute a placement: gathering, one pass in rising id, and node by node from the greatest. Node 0 is the stash.
 use Rattle.std.specs.Prelude.{◌≡◌, ℕ, zero, suc, ◌+◌, ◌<◌, ◌≤◌, ◌==◌, nat_lt, Bool, true, ◌&&◌, if◌then◌else◌, List, [], ◌∷◌, ◌++◌, length, fold, Option, is_some, ⊤}
 use Rattle.std.specs.List.{list_any}
 use Rattle.tao_base.specs.declared.storage.Entry.{Entry}
@@ -6,7 +6,7 @@ use Rattle.tao_model.specs.Placement.{Rises, look}
 
 -- ---- gathering
 
--- a rising list with one entry more, where it has none of this id
+-- a rising list with one more entry, unless it has one of this id
 abbrev pub gather_one : List Entry → Entry → List Entry
 gather_one [] e = e ∷ []
 gather_one (f ∷ fs) e = if nat_lt e.id f.id then e ∷ f ∷ fs else (if e.id == f.id then f ∷ fs else f ∷ gather_one fs e)
@@ -15,11 +15,11 @@ gather_one (f ∷ fs) e = if nat_lt e.id f.id then e ∷ f ∷ fs else (if e.id 
 abbrev pub gather : List Entry → List Entry → List Entry
 gather entries more = fold gather_one entries more
 
--- all that lies in some nodes, the first copy of each block, in rising id
+-- all entries of some nodes, the first copy of each block, in rising id
 abbrev pub gathered_from : (ℕ → List Entry) → List ℕ → List Entry
 gathered_from held nodes = fold (λ entries w. gather entries (held w)) [] nodes
 
--- What a placement starts from, as a list: the gathered entries in rising id. A block that may lie in a node is gathered.
+-- The gathered entries that a placement starts from, in rising id. Every block that may lie in a node is gathered.
 pub record IsGathered (may : ℕ → ℕ → Bool) (gathered : ℕ → Option (List ℕ)) (entries : List Entry) : Type 0 where
   pub rises : Rises 0 entries
   pub looks : (b : ℕ) → look b entries ≡ gathered b
@@ -32,19 +32,19 @@ abbrev pub deepest : (ℕ → Bool) → ℕ → ℕ
 deepest passes zero = 0
 deepest passes (suc m) = if passes (m + 1) then m + 1 else deepest passes m
 
--- where a block goes: the greatest node that it may lie in and that has room, else the stash
+-- where a block goes: the greatest node with a free slot that it may lie in, else the stash
 abbrev pub spot : (ℕ → ℕ → Bool) → ℕ → ℕ → (ℕ → List Entry) → ℕ → ℕ
 spot may m z contents b = deepest (λ w. may b w && nat_lt (length (contents w)) z) m
 
--- the contents with an entry more, behind those that this node, or the stash, has
+-- the contents with an entry appended at this node or the stash
 abbrev pub put_at : (ℕ → List Entry) → ℕ → Entry → ℕ → List Entry
 put_at contents at entry w = if at == w then contents w ++ entry ∷ [] else contents w
 
--- one step of the pass: the entry goes to its spot among what the earlier ones have left free
+-- one step of the pass: the entry goes to its spot
 abbrev pub put_next : (ℕ → ℕ → Bool) → ℕ → ℕ → (ℕ → List Entry) → Entry → ℕ → List Entry
 put_next may m z contents entry = put_at contents (spot may m z contents entry.id) entry
 
--- each entry in turn goes into the greatest node that it may lie in and that has room, else into the stash
+-- each entry in turn goes to the greatest node with a free slot that it may lie in, else to the stash
 abbrev pub one_pass : (ℕ → ℕ → Bool) → ℕ → ℕ → List Entry → ℕ → List Entry
 one_pass may m z entries = fold (put_next may m z) (λ w. []) entries
 
@@ -60,20 +60,19 @@ pub record Handed : Type 0 where
   pub taken : List Entry
   pub rest : List Entry
 
--- the stash so divided: what is taken, and what stays
 abbrev pub handed : List Entry → List Entry → Handed
 handed taken rest = record { taken = taken; rest = rest }
 
--- one entry of the stash: the node takes it where it may lie there and there is room
+-- one entry of the stash: the node takes it if it may lie there and a slot is free
 abbrev pub hand : (ℕ → Bool) → ℕ → Handed → Entry → Handed
 hand passes z h entry =
     if passes entry.id && nat_lt (length h.taken) z then handed (h.taken ++ entry ∷ []) h.rest else handed h.taken (h.rest ++ entry ∷ [])
 
--- the node takes from the stash, in rising id, as many as may lie there and find room
+-- the node takes entries from the stash in rising id while slots are free
 abbrev pub hand_out : (ℕ → Bool) → ℕ → List Entry → Handed
 hand_out passes z stash = fold (hand passes z) (handed [] []) stash
 
--- the nodes of a list in turn, each from what those before it left; what none took stays in the stash
+-- the nodes of a list in turn, each from what those before it left; the rest stays in the stash
 abbrev pub fill : (ℕ → ℕ → Bool) → ℕ → List ℕ → List Entry → ℕ → List Entry
 fill may z [] stash v = if v == 0 then stash else []
 fill may z (w ∷ ws) stash v =
@@ -84,7 +83,7 @@ abbrev pub Falls : ℕ → List ℕ → Type 0
 Falls k [] = ⊤
 Falls k (w ∷ ws) = (0 < w) × (w < k) × Falls w ws
 
--- the nodes that are filled, the greatest first: all of those from 1 to m that some block may lie in
+-- the nodes that are filled, the greatest first: all from 1 to m that some block may lie in
 pub record IsRound (may : ℕ → ℕ → Bool) (m : ℕ) (nodes : List ℕ) : Type 0 where
   pub falls : Falls (m + 1) nodes
   pub all : (b w : ℕ) → 0 < w → w ≤ m → may b w ≡ true → list_any (λ v. v == w) nodes ≡ true

@@ -29,7 +29,7 @@ array_now o (Issue version nonce buckets ∷ es) = array_now o es
 array_now o (Acked version ∷ es) = array_now o es
 array_now o (Fault cause ∷ es) = array_now o es
 
--- what the plain array answers this arrival, after all earlier arrivals
+-- what the plain array answers this arrival after all earlier ones
 abbrev pub plain_reply : Opening → List Event → ℕ → List ℕ
 plain_reply o [] i = []
 plain_reply o (Arrive client op word ∷ es) i = if i == arrived es then array_reply (array_now o es) op else plain_reply o es i
@@ -38,11 +38,11 @@ plain_reply o (Issue version nonce buckets ∷ es) i = plain_reply o es i
 plain_reply o (Acked version ∷ es) i = plain_reply o es i
 plain_reply o (Fault cause ∷ es) i = plain_reply o es i
 
--- how many numbers from 0 on pass, up to the first below n that doesn't
+-- how many of the numbers below n pass before the first that doesn't
 abbrev pub leading : (ℕ → Bool) → ℕ → ℕ
 leading passes zero = 0
 leading passes (suc n) = if passes n && (leading passes n == n) then n + 1 else leading passes n
 
--- Answers are released in the order of arrival: so many arrivals, from the first on, are all done.
+-- The number of released answers: answers are released in the order of arrival, up to the first arrival that isn't done.
 abbrev pub released : List Event → ℕ
 released es = leading (is_done es) (arrived es)

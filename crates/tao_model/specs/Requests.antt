@@ -1,4 +1,4 @@
--- Which arrivals fetch for their block, and which leaf each fetches. The events are newest first.
+-- Which arrivals are real, and which leaf each fetches. The events are newest first.
 use Rattle.std.specs.Prelude.{ℕ, zero, suc, ◌+◌, ◌==◌, Bool, false, not, ◌&&◌, ◌||◌, if◌then◌else◌, List, [], ◌∷◌}
 use Rattle.tao_base.specs.declared.calls.Op.{Op}
 use Rattle.tao_base.specs.declared.calls.Op.TheVariants.{Read, Write, Pad}
@@ -13,13 +13,13 @@ abbrev pub any_below : (ℕ → Bool) → ℕ → Bool
 any_below passes zero = false
 any_below passes (suc n) = passes n || any_below passes n
 
--- No real arrival below n on the operation's block is under way. A pad is on no block, and it is never free.
+-- No real arrival below n on the operation's block is under way. A pad is on no block and never free.
 abbrev pub is_free : (ℕ → ℕ → Bool) → (ℕ → Bool) → (ℕ → Bool) → ℕ → Op → Bool
 is_free on real finished n (Read block) = not (any_below (λ i. on i block && (real i && not (finished i))) n)
 is_free on real finished n (Write block value) = not (any_below (λ i. on i block && (real i && not (finished i))) n)
 is_free on real finished n Pad = false
 
--- An arrival on a block is real where every earlier real arrival on it is done before: its fetch is for its block. Else it is fake, as a pad is.
+-- An arrival on a block is real if every earlier real arrival on it is done: it fetches for its block. Otherwise it is fake, like a pad.
 abbrev pub is_real : List Event → ℕ → Bool
 is_real [] i = false
 is_real (Arrive client op word ∷ es) i = if i == arrived es then is_free (is_on es) (is_real es) (is_done es) (arrived es) op else is_real es i
@@ -28,11 +28,11 @@ is_real (Issue version nonce buckets ∷ es) i = is_real es i
 is_real (Acked version ∷ es) i = is_real es i
 is_real (Fault cause ∷ es) i = is_real es i
 
--- whether an arrival of this operation would now be real
+-- whether an arrival of this operation would be real now
 abbrev pub real_now : List Event → Op → Bool
 real_now es op = is_free (is_on es) (is_real es) (is_done es) (arrived es) op
 
--- the last real arrival on a block, or 0 where there is none
+-- the last real arrival on a block, or 0 if there is none
 abbrev pub last_real : List Event → ℕ → ℕ
 last_real [] block = 0
 last_real (Arrive client op word ∷ es) block = if real_now es op && names block op then arrived es else last_real es block
@@ -41,7 +41,7 @@ last_real (Issue version nonce buckets ∷ es) block = last_real es block
 last_real (Acked version ∷ es) block = last_real es block
 last_real (Fault cause ∷ es) block = last_real es block
 
--- what a new arrival waits for: itself where it is real or a pad, else the last real arrival on its block
+-- what settles a new arrival: itself if it is real or a pad, else the last real arrival on its block
 abbrev pub settler_for : (ℕ → ℕ) → ℕ → Bool → Op → ℕ
 settler_for last new real (Read block) = if real then new else last block
 settler_for last new real (Write block value) = if real then new else last block
@@ -56,7 +56,7 @@ settler (Issue version nonce buckets ∷ es) i = settler es i
 settler (Acked version ∷ es) i = settler es i
 settler (Fault cause ∷ es) i = settler es i
 
--- an arrival's value is known once its settler is done, and a pad's at once
+-- an arrival's value is known once its settler is done; a pad's at once
 abbrev pub is_settled : List Event → ℕ → Bool
 is_settled es i = is_pad es i || is_done es (settler es i)
 
@@ -69,7 +69,7 @@ next_word o (Issue version nonce buckets ∷ es) block = next_word o es block
 next_word o (Acked version ∷ es) block = next_word o es block
 next_word o (Fault cause ∷ es) block = next_word o es block
 
--- the place of the word that a new arrival uses: its block's where it is real, else its own
+-- the place of the word that a new arrival uses: its block's next word if it is real, else its own
 abbrev pub word_for : (ℕ → ℕ) → ℕ → Bool → Op → ℕ
 word_for next new real (Read block) = if real then next block else new
 word_for next new real (Write block value) = if real then next block else new
@@ -96,7 +96,7 @@ fetched_leaf o es i = leaf_at o es (word_used o es i)
 abbrev pub fetches : Opening → List Event → ℕ → ℕ → Bool
 fetches o es i node = is_on_path o.shape.l (fetched_leaf o es i) node
 
--- the place of the word of a block's position: that of its last real arrival that is done
+-- the place of the word of a block's position: that of the last real arrival on it that is done
 abbrev pub position_word : Opening → List Event → ℕ → ℕ
 position_word o [] block = block
 position_word o (Arrive client op word ∷ es) block = position_word o es block
@@ -105,6 +105,6 @@ position_word o (Issue version nonce buckets ∷ es) block = position_word o es 
 position_word o (Acked version ∷ es) block = position_word o es block
 position_word o (Fault cause ∷ es) block = position_word o es block
 
--- the position map: the leaf on whose path a block lies, where it isn't in the stash
+-- the position map: the leaf on whose path a block lies, unless it is in the stash
 abbrev pub position : Opening → List Event → ℕ → ℕ
 position o es block = leaf_at o es (position_word o es block)

@@ -1,4 +1,4 @@
--- Which nodes the proxy holds, and what was last written at each. The events are newest first.
+-- Which nodes the proxy holds, and the latest version of each. The events are newest first.
 use Rattle.std.specs.Prelude.{◌≡◌, ℕ, ◌+◌, ◌*◌, ◌==◌, nat_lt, Bool, false, not, ◌&&◌, ◌||◌, if◌then◌else◌, List, [], ◌∷◌, Option, IfSome, All, ⊤, is_some}
 use Rattle.std.specs.List.{find}
 use Rattle.std.specs.Option.{option_or}
@@ -35,11 +35,11 @@ is_issued (Fault cause ∷ es) v node = is_issued es v node
 abbrev pub is_covered : Opening → List Event → ℕ → Bool
 is_covered o es node = any_below (λ i. not (is_done es i) && fetches o es i node) (arrived es)
 
--- Whether the acknowledgement of this version lets the node go: it was written by it, was not touched since, and no fetch covers it.
+-- Whether the acknowledgement of this version lets the node go: the version has it, no later Done touched it, and no fetch covers it.
 abbrev pub departs : Opening → List Event → ℕ → ℕ → Bool
 departs o es v node = is_issued es v node && (not (nat_lt (v * o.shape.k) (last_touch o es node)) && not (is_covered o es node))
 
--- whether the proxy holds the node: a Done brings its path, an acknowledgement lets nodes go
+-- whether the proxy holds the node: a Done brings in its path, an acknowledgement lets nodes go
 abbrev pub is_resident : Opening → List Event → ℕ → Bool
 is_resident o [] node = false
 is_resident o (Arrive client op word ∷ es) node = is_resident o es node
@@ -48,7 +48,7 @@ is_resident o (Issue version nonce buckets ∷ es) node = is_resident o es node
 is_resident o (Acked version ∷ es) node = is_resident o es node && not (departs o es version node)
 is_resident o (Fault cause ∷ es) node = is_resident o es node
 
--- what was last written at a node: its bucket in the newest write-back that has it, or the loaded one
+-- the latest version of a node: its bucket in the last write-back that has it, or the loaded one
 abbrev pub newest_write : Opening → List Event → ℕ → Option Bucket
 newest_write o [] node = bucket_of node o.loaded
 newest_write o (Arrive client op word ∷ es) node = newest_write o es node
@@ -57,7 +57,7 @@ newest_write o (Issue version nonce buckets ∷ es) node = option_or (bucket_of 
 newest_write o (Acked version ∷ es) node = newest_write o es node
 newest_write o (Fault cause ∷ es) node = newest_write o es node
 
--- the version of the newest write: that of the newest write-back that has the node, or 0 for the load
+-- the number of that version, 0 for the load
 abbrev pub newest_version : List Event → ℕ → ℕ
 newest_version [] node = 0
 newest_version (Arrive client op word ∷ es) node = newest_version es node
@@ -66,7 +66,7 @@ newest_version (Issue version nonce buckets ∷ es) node = if is_some (bucket_of
 newest_version (Acked version ∷ es) node = newest_version es node
 newest_version (Fault cause ∷ es) node = newest_version es node
 
--- Honest answers: each bucket that was taken in is the same as the newest write of its node, in the sense that is handed in.
+-- Honest answers: each fetched bucket is the `same` as the latest version of its node.
 abbrev pub Unaltered : (Bucket → Bucket → Type 0) → Opening → List Event → Type 0
 Unaltered same o [] = ⊤
 Unaltered same o (Arrive client op word ∷ es) = Unaltered same o es
@@ -75,6 +75,6 @@ Unaltered same o (Issue version nonce buckets ∷ es) = Unaltered same o es
 Unaltered same o (Acked version ∷ es) = Unaltered same o es
 Unaltered same o (Fault cause ∷ es) = Unaltered same o es
 
--- the sense of a store without tags: equal entries
+-- the sense of an untagged store: equal entries
 abbrev pub HasEntriesOf : Bucket → Bucket → Type 0
 HasEntriesOf bucket written = bucket.entries ≡ written.entries

@@ -1,4 +1,4 @@
--- Stability: what later events leave as it was. A record's events are oldest first; looked back on, they are reversed.
+-- Stability: what later events don't change. A record's events are oldest first.
 use Rattle.std.specs.Prelude.{◌≡◌, ℕ, ◌<◌, ◌≤◌, List, ◌++◌, reverse}
 use Rattle.tao_base.specs.declared.session.Event.{Event}
 use Rattle.tao_base.specs.Session.{Opening}
@@ -7,7 +7,7 @@ use Rattle.tao_model.specs.Requests.{is_real, settler, word_used, fetched_leaf}
 use Rattle.tao_model.specs.Replies.{plain_reply, released}
 use Rattle.tao_model.specs.Lawful.{FollowsLawfully}
 
--- arrival i is what it was: who made it, whether it is real, the word that it uses, the leaf that it fetches, its plain reply, and what settles it
+-- nothing that was known of arrival i has changed: client, kind, word, leaf, plain reply and settler
 pub record IsAsBefore (o : Opening) (before now : List Event) (i : ℕ) : Type 0 where
   pub client : client_of now i ≡ client_of before i
   pub real : is_real now i ≡ is_real before i

@@ -1,4 +1,4 @@
--- The request trace: all that the server sees of a record. It has no operation and no contents.
+-- The request trace: all that the server sees of a record. It has no operations and no contents.
 use Rattle.std.specs.List.{flat_map}
 use Rattle.std.specs.Prelude.{ℕ, ◌==◌, Bool, if◌then◌else◌, List, [], ◌∷◌, ◌++◌, map, reverse}
 use Rattle.tao_base.specs.declared.session.Event.{Event}
@@ -24,7 +24,7 @@ requests o (Issue version nonce buckets ∷ es) = requests o es ++ Store version
 requests o (Acked version ∷ es) = requests o es
 requests o (Fault cause ∷ es) = requests o es
 
--- a version's store, sent again
+-- the repeated store of a version
 abbrev pub again_of : List Event → ℕ → List Request
 again_of [] v = []
 again_of (Arrive client op word ∷ es) v = again_of es v
@@ -33,7 +33,7 @@ again_of (Issue version nonce buckets ∷ es) v = if version == v then Again ver
 again_of (Acked version ∷ es) v = again_of es v
 again_of (Fault cause ∷ es) v = again_of es v
 
--- the trace of a record whose stores of these versions were sent again, and whose tree was read whole at the close or was not
+-- the trace of a record: `again` are the versions whose stores were sent again, and the flag says whether the tree was scanned
 abbrev pub request_trace : History → List ℕ → Bool → List Request
 request_trace h again scanned =
     (requests h.opening (reverse h.events) ++ flat_map (again_of (reverse h.events)) again) ++ (if scanned then Scan ∷ [] else [])

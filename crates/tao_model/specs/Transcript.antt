@@ -1,4 +1,4 @@
--- The transcript: the text that tells a whole session, line by line.
+-- The transcript: the text of a whole session, line by line.
 use Rattle.std.specs.Prelude.{ℕ, ◌+◌, ◌-◌, ◌==◌, nat_le, Bool, if◌then◌else◌, List, [], ◌∷◌, ◌++◌, length, Option, Some, None, codes}
 use Rattle.std.specs.List.{flat_map, range_with_len, list_all}
 use Rattle.tao_base.specs.declared.calls.Op.{Op}
@@ -23,13 +23,13 @@ use Rattle.tao_model.specs.Trace.{nodes_in}
 
 -- ---- the opening
 
--- the form of the store: with tags, or with tags in the write-backs only; form 1, without tags, has no line
+-- the line of the store's form: tagged or mixed; an untagged store has no line
 abbrev pub form_line : Form → List ℕ
 form_line One = []
 form_line Two = codes "form 2\n"
 form_line Turn = codes "form turn\n"
 
--- no byte is other than 0
+-- all bytes are 0
 abbrev pub is_zero : List ℕ → Bool
 is_zero bytes = list_all (λ byte. byte == 0) bytes
 
@@ -41,14 +41,14 @@ first_line blocks id = if is_zero (block_at blocks id) then [] else hex_line (co
 abbrev pub tree_line : Shape → List ℕ
 tree_line s = words_line (codes "tree") (s.l ∷ s.z ∷ s.b ∷ s.n ∷ s.k ∷ [])
 
--- parameters and form, the first values that aren't all zero, ids rising, and how many nodes were loaded
+-- parameters and form, the first values that aren't all zero in rising id, and how many nodes were loaded
 abbrev pub opening_lines : Opening → List ℕ
 opening_lines o = ((tree_line o.shape ++ form_line o.shape.form) ++ flat_map (first_line o.first) (range_with_len 0 (length o.first)))
     ++ words_line (codes "load") (node_count o.shape.l ∷ [])
 
 -- ---- events; those before are newest first
 
--- what was asked, each word behind a space: read, write or pad, the block, and in hex the value that is written
+-- the operation, each word after a space: read, write or pad, the block, and in hex the value to be written
 abbrev pub op_words : Op → List ℕ
 op_words (Read id) = codes " read" ++ spaced id
 op_words (Write id value) = (codes " write" ++ spaced id) ++ spaced_hex value
@@ -62,11 +62,11 @@ arrive_line i client op = ended (((codes "arrive" ++ spaced i) ++ spaced client)
 abbrev pub reply_line : Opening → List Event → ℕ → List ℕ
 reply_line o es i = if is_pad es i then [] else hex_line (codes "reply") (i ∷ client_of es i ∷ []) (plain_reply o es i)
 
--- the replies of the arrivals that are released since `from`
+-- the replies of the arrivals released since `from`
 abbrev pub reply_lines : Opening → List Event → ℕ → List ℕ
 reply_lines o es from = flat_map (reply_line o es) (range_with_len from (released es - from))
 
--- the word for what is wrong with the bytes of a bucket
+-- the word for what is wrong with a bucket's bytes
 abbrev pub fault_name : BucketFault → List ℕ
 fault_name bucket_faults.Length = codes "Length"
 fault_name bucket_faults.Format = codes "Format"
@@ -77,13 +77,13 @@ fault_name bucket_faults.Order = codes "Order"
 fault_name bucket_faults.Dummy = codes "Dummy"
 fault_name bucket_faults.Tag = codes "Tag"
 
--- a bucket that was refused: of which fetch and node, and why; of a link that failed there is no line
+-- the fetch and node of a refused bucket, and why; a link that failed has no line
 abbrev pub cause_line : Cause → List ℕ
 cause_line (Damaged fetch node fault) = ended (((codes "refused" ++ spaced fetch) ++ spaced node) ++ (codes " damaged " ++ fault_name fault))
 cause_line (Stale fetch node wanted found) = ended ((((codes "refused" ++ spaced fetch) ++ spaced node) ++ codes " stale") ++ (spaced wanted ++ spaced found))
 cause_line (Link link) = []
 
--- the lines of an event, behind those before it
+-- the lines of an event after those before it
 abbrev pub event_lines : Opening → List Event → Event → List ℕ
 event_lines o es (Arrive client op word) = arrive_line (arrived es) client op
     ++ words_line (codes "fetch") (arrived es ∷ fetched_leaf o (Arrive client op word ∷ es) (arrived es) ∷ [])
@@ -101,7 +101,7 @@ again_line (Issue version nonce buckets ∷ es) v = if version == v then words_l
 again_line (Acked version ∷ es) v = again_line es v
 again_line (Fault cause ∷ es) v = again_line es v
 
--- an acknowledgement that comes when all but so many have come is that of a store that was sent again
+-- after the first `once` acknowledgements each is of a store that was sent again
 abbrev pub again_before : ℕ → List Event → Event → List ℕ
 again_before once es (Arrive client op word) = []
 again_before once es (Done arrival taken) = []
@@ -109,12 +109,12 @@ again_before once es (Issue version nonce buckets) = []
 again_before once es (Acked version) = if nat_le once (acks es) then again_line es version else []
 again_before once es (Fault cause) = []
 
--- the lines of the rest of a record, behind those before it
+-- the lines of the rest of a record
 abbrev pub lines_from : Opening → ℕ → List Event → List Event → List ℕ
 lines_from o once es [] = []
 lines_from o once es (e ∷ rest) = (again_before once es e ++ event_lines o es e) ++ lines_from o once (e ∷ es) rest
 
--- how many acknowledgements a record has
+-- the number of acknowledgements, oldest first
 abbrev pub acks_in : List Event → ℕ
 acks_in [] = 0
 acks_in (Arrive client op word ∷ rest) = acks_in rest
@@ -129,11 +129,11 @@ acks_in (Fault cause ∷ rest) = acks_in rest
 abbrev pub block_line : List (List ℕ) → ℕ → List ℕ
 block_line blocks id = hex_line (codes "block") (id ∷ []) (block_at blocks id)
 
--- the final array, where the whole tree was read at the close
+-- the final array, if the whole tree was read at the close
 abbrev pub closing_lines : Option (List (List ℕ)) → List ℕ
 closing_lines None = []
 closing_lines (Some blocks) = codes "scan\n" ++ flat_map (block_line blocks) (range_with_len 0 (length blocks))
 
--- the whole text of a record: of its last acknowledgements so many are of stores that were sent again
+-- the whole text of a record; the last `again` acknowledgements are of stores that were sent again
 abbrev pub transcript : History → ℕ → Option (List (List ℕ)) → List ℕ → List ℕ
 transcript h again final end = ((opening_lines h.opening ++ lines_from h.opening (acks_in h.events - again) [] h.events) ++ closing_lines final) ++ end

@@ -1,4 +1,4 @@
--- Lawful records in words: what has to hold of a whole list of events, the oldest first, place by place. The first place is 0.
+-- Lawful records as a property of the whole list of events, oldest first. Places count from 0.
 use Rattle.std.specs.Prelude.{◌≡◌, ◌↔◌, ℕ, ◌+◌, ◌-◌, ◌*◌, ◌<◌, ◌≤◌, List, map, reverse, length, take, drop, slice_get, Some, All}
 use Rattle.std.specs.List.{range_with_len}
 use Rattle.tao_base.specs.declared.calls.Op.{Op}
@@ -20,17 +20,17 @@ use Rattle.tao_model.specs.LookBacks.{done_arrivals}
 abbrev pub IsAt : List Event → ℕ → Event → Type 0
 IsAt events p e = slice_get events p ≡ Some e
 
--- the events before a place, newest first, as the functions that look back take them
+-- the events before a place, newest first, as look-back functions take them
 abbrev pub before : List Event → ℕ → List Event
 before events p = reverse (take p events)
 
--- at most as many arrivals as a session may have, each of one of 64 clients and with an operation that the store takes
+-- no more arrivals than a session may have, each from one of 64 clients and with an operation that the store accepts
 pub record ArrivalsAreLawful (o : Opening) (events : List Event) : Type 0 where
   pub few : arrived (reverse events) ≤ session_limit o.shape
   pub made : (p client : ℕ) (op : Op) (word : ℕ) → IsAt events p (Arrive client op word) → (client < 64) × IsInRange o.shape op
 
--- A Done comes at most once for an arrival, and after it. It took in the nodes of its path that the proxy didn't hold, root first,
--- each in form and of the version of its newest write.
+-- An arrival has at most one Done, after it. The Done has the nodes of its path that the proxy didn't hold, root first,
+-- each in form and of its latest version.
 pub record DonesAreLawful (o : Opening) (events : List Event) : Type 0 where
   pub once : (p q arrival : ℕ) (taken other : List Bucket) → IsAt events p (Done arrival taken) → IsAt events q (Done arrival other) → p ≡ q
   pub after : (p arrival : ℕ) (taken : List Bucket) → IsAt events p (Done arrival taken) → arrival < arrived (before events p)
@@ -39,7 +39,7 @@ pub record DonesAreLawful (o : Opening) (events : List Event) : Type 0 where
   pub versions : (p arrival : ℕ) (taken : List Bucket) → IsAt events p (Done arrival taken)
       → All (λ bucket. bucket.version ≡ newest_version (before events p) bucket.node) taken
 
--- what a write-back of a version has: the nodes on the paths of the last period's leaves, rising; in form; with nonces that count on
+-- a write-back has the nodes on the paths of the last period, rising and in form, with consecutive nonces
 pub record IsWriteBack (o : Opening) (earlier : List Event) (version nonce : ℕ) (buckets : List Bucket) : Type 0 where
   pub nodes : nodes_in buckets ≡ nodes_of o.shape.l (map (fetched_leaf o (reverse earlier)) (drop ((version - 1) * o.shape.k) (done_arrivals earlier)))
   pub in_form : All (IsInForm o.shape) buckets
@@ -47,7 +47,7 @@ pub record IsWriteBack (o : Opening) (earlier : List Event) (version nonce : ℕ
   pub counts_on : nonce ≡ node_count o.shape.l + 1 + buckets_issued (reverse earlier)
   pub nonces : map (λ bucket. bucket.nonce) buckets ≡ range_with_len nonce (length buckets)
 
--- The write-back of version v stands directly after the Done of number v times the period and nowhere else, and each such Done has it.
+-- The write-back of version v comes right after the Done that fills period v, and nowhere else; each such Done has one.
 pub record IssuesAreLawful (o : Opening) (events : List Event) : Type 0 where
   pub follows : (p version nonce : ℕ) (buckets : List Bucket) → IsAt events p (Issue version nonce buckets)
       → (q arrival : ℕ) × (taken : List Bucket) × (p ≡ q + 1) × IsAt events q (Done arrival taken) × (dones (before events p) ≡ version * o.shape.k)
@@ -55,17 +55,17 @@ pub record IssuesAreLawful (o : Opening) (events : List Event) : Type 0 where
       → (nonce : ℕ) × (buckets : List Bucket) × IsAt events (p + 1) (Issue version nonce buckets)
   pub written : (p version nonce : ℕ) (buckets : List Bucket) → IsAt events p (Issue version nonce buckets) → IsWriteBack o (take p events) version nonce buckets
 
--- an acknowledgement comes at most once for a write-back, and after it
+-- a write-back has at most one acknowledgement, after it
 pub record AcksAreLawful (events : List Event) : Type 0 where
   pub once : (p q version : ℕ) → IsAt events p (Acked version) → IsAt events q (Acked version) → p ≡ q
   pub after : (p version : ℕ) → IsAt events p (Acked version) → (q nonce : ℕ) × (buckets : List Bucket) × (q < p) × IsAt events q (Issue version nonce buckets)
 
--- a Fault is the last event, and names what it may
+-- a Fault is the last event, and its cause is possible
 pub record FaultsAreLawful (o : Opening) (events : List Event) : Type 0 where
   pub last : (p : ℕ) (cause : Cause) → IsAt events p (Fault cause) → p + 1 ≡ length events
   pub named : (p : ℕ) (cause : Cause) → IsAt events p (Fault cause) → MayFail o (before events p) cause
 
--- a list of events is lawful as a whole where its events of each kind are
+-- a list of events is lawful as a whole if its events of each kind are
 pub record IsLawfulWhole (o : Opening) (events : List Event) : Type 0 where
   pub arrivals : ArrivalsAreLawful o events
   pub dones : DonesAreLawful o events
@@ -73,7 +73,7 @@ pub record IsLawfulWhole (o : Opening) (events : List Event) : Type 0 where
   pub acks : AcksAreLawful events
   pub faults : FaultsAreLawful o events
 
--- The rule that goes event by event says what the whole says, both ways.
+-- Following lawfully, event by event, is the same as being lawful as a whole.
 abbrev pub LawfulMeans : Type 0
 LawfulMeans = (o : Opening) (events : List Event) → IsOpening o
     → (FollowsLawfully o (reverse events) × OwesNone o (reverse events)) ↔ IsLawfulWhole o events

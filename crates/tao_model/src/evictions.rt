@@ -6,22 +6,22 @@ pub fn entries_are_gathered()
     ensures { EntriesAreGathered }
 {}
 
-/// A path falls from the leaf to the root.
+/// A path from the leaf up visits smaller and smaller nodes.
 pub fn path_falls()
     ensures { PathFalls }
 {}
 
-/// Where a block goes in one pass is the first node from the leaf up that it may lie in and that has room.
+/// One pass puts a block into the first node from the leaf up that it may lie in and that has a free slot.
 pub fn spot_is_first()
     ensures { SpotIsFirst }
 {}
 
-/// Where a block goes in the load is the first node with room from its leaf up.
+/// The load puts a block into the first node with a free slot from its leaf up.
 pub fn load_spot()
     ensures { LoadSpot }
 {}
 
-/// The blocks of the array, listed as entries, are what the load gathers.
+/// The entries of the array's blocks are what the load gathers.
 pub fn load_gathers()
     ensures { LoadGathers }
 {}
@@ -36,17 +36,17 @@ pub fn one_load()
     ensures { OneLoad }
 {}
 
-/// The stash and the path, gathered, are what the eviction places.
+/// The gathered entries of stash and path are what the eviction places.
 pub fn eviction_gathers()
     ensures { EvictionGathers }
 {}
 
-/// The nodes of a path from the leaf up are those that the eviction fills.
+/// The nodes that an eviction fills are those of the path, from the leaf up.
 pub fn eviction_round()
     ensures { EvictionRound }
 {}
 
-/// The computed eviction is one.
+/// The computed eviction is an eviction.
 pub fn eviction_is_placed()
     ensures { EvictionIsPlaced }
 {}
@@ -56,12 +56,12 @@ pub fn one_eviction()
     ensures { OneEviction }
 {}
 
-/// Node by node from the leaf up it comes to the same.
+/// Filling node by node from the leaf up gives the same eviction.
 pub fn eviction_fills()
     ensures { EvictionFills }
 {}
 
-/// A gathered block lies once afterwards, with the value of its first copy.
+/// After an eviction a gathered block has one entry, with the value of its first copy.
 pub fn first_copy_stays()
     ensures { FirstCopyStays }
 {}

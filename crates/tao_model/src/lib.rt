@@ -1,5 +1,5 @@
-//! What a reader has to believe: the definitions of records, requests and placements, and the laws about them that all proofs cite.
-//! There is no code but the laws: functions with empty bodies whose contract is the law.
+//! What a reader has to believe: the definitions of records, requests and placements, and laws about them.
+//! The only code is laws: functions with empty bodies, whose contract is the law.
 #![tactic(auto)]
 
 mod copies;

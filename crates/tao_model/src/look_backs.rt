@@ -1,4 +1,4 @@
-//! Laws: what the functions that look back say, in words of the whole record.
+//! Laws: what the look-back functions mean for the whole record.
 ghost use Rattle.tao_model.specs.LookBacks.{LastTouchIsLast, TouchedAreNodes, NewestIsGreatest, RealMeans, SettlerIsLast, RealFetchesLast, FakeFetchesOwn, PositionIsLast, ReleasedIsGreatest, OpsArrived, ArrayIsFold, ReplyIsPlain};
 
 /// The last touch of a node is the last Done whose path has it.
@@ -6,27 +6,27 @@ pub fn last_touch_is_last()
     ensures { LastTouchIsLast }
 {}
 
-/// The nodes touched after a Done are those on the paths of the later ones: the nodes of a write-back.
+/// The nodes touched after a Done are those on the paths of the later Dones: the nodes of a write-back.
 pub fn touched_are_nodes()
     ensures { TouchedAreNodes }
 {}
 
-/// The newest write of a node is that of the greatest version that has it.
+/// The latest version of a node is the greatest that has it.
 pub fn newest_is_greatest()
     ensures { NewestIsGreatest }
 {}
 
-/// An arrival on a block is real exactly where every earlier real one on it is done before.
+/// An arrival on a block is real exactly if every earlier real one on it is done.
 pub fn real_means()
     ensures { RealMeans }
 {}
 
-/// What settles an arrival is the last real arrival on its block up to it.
+/// An arrival is settled by the last real arrival on its block up to it.
 pub fn settler_is_last()
     ensures { SettlerIsLast }
 {}
 
-/// A real arrival fetches the leaf that the real one before it on its block put it to.
+/// A real arrival fetches the leaf that the previous real arrival on its block assigned.
 pub fn real_fetches_last()
     ensures { RealFetchesLast }
 {}
@@ -46,12 +46,12 @@ pub fn released_is_greatest()
     ensures { ReleasedIsGreatest }
 {}
 
-/// As many operations as arrivals.
+/// There are as many operations as arrivals.
 pub fn ops_arrived()
     ensures { OpsArrived }
 {}
 
-/// The array now is the first one after all operations.
+/// The current array is the first one after all operations.
 pub fn array_is_fold()
     ensures { ArrayIsFold }
 {}

@@ -1,4 +1,4 @@
-//! Laws: what one more event makes of all that is looked back on.
+//! Laws: how one more event changes each look-back function.
 ghost use Rattle.tao_model.specs.OneMore.{OneMoreArrive, OneMoreDone, OneMoreIssue, OneMoreAcked, OneMoreFault, PadsAreFake};
 
 /// One more arrival.
@@ -6,7 +6,7 @@ pub fn one_more_arrive()
     ensures { OneMoreArrive }
 {}
 
-/// One more fetched path that was taken in.
+/// One more Done: a fetched path that was admitted.
 pub fn one_more_done()
     ensures { OneMoreDone }
 {}

@@ -1,12 +1,12 @@
-//! Laws: what a tree is loaded with is fixed by the words and the blocks.
+//! Laws: the words and the blocks determine the loaded tree.
 ghost use Rattle.tao_model.specs.Openings.{OneOpening, OpensSo};
 
-/// An opening that is loaded as it has to be is loaded with the computed tree.
+/// An opening that opens with its load has the computed tree.
 pub fn one_opening()
     ensures { OneOpening }
 {}
 
-/// With the computed tree it is loaded as it has to be.
+/// An opening with the computed tree opens with its load.
 pub fn opens_so()
     ensures { OpensSo }
 {}

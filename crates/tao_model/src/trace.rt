@@ -1,8 +1,8 @@
 //! One request, as the server sees it.
 use tao_base::Numbers;
 
-/// A request of the trace: the load of so many nodes; the fetch of this number of a leaf's path; the store of this version, its first
-/// nonce and its nodes; such a store sent again; the fetches of all paths at the close.
+/// A request of the trace: load so many nodes; fetch number and leaf; store version, first nonce and nodes; the same store
+/// sent again; fetch all paths at the close.
 #[derive(Debug, Drop)]
 pub enum Request {
     Load(u32),

@@ -1,7 +1,7 @@
-//! Laws: what a lawful record is, said of the whole list of events.
+//! Laws: what a lawful record is, as a property of the whole list of events.
 ghost use Rattle.tao_model.specs.WholeRecords.{LawfulMeans};
 
-/// The rule that goes event by event says what the whole says, both ways.
+/// Following lawfully, event by event, is the same as being lawful as a whole.
 pub fn lawful_means()
     ensures { LawfulMeans }
 {}

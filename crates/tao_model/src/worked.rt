@@ -1,4 +1,4 @@
-//! Worked records: their transcripts, fetched leaves and residents are those that were worked out by hand.
+//! Worked records: their transcripts, fetched leaves and residents are those worked out by hand.
 ghost use Rattle.tao_model.specs.Worked.{OneRead, ReadWriteRead, FullPath, OverlappingRequests, WriteBacksOutOfOrder, KeptUnderAFetch, NoWriteBackBeforeThePeriod, RootIsKept, AllIsHeld};
 ghost use Rattle.tao_model.specs.WorkedLawful.{WorkedAreLawful};
 
@@ -7,28 +7,28 @@ pub fn one_read()
     ensures { OneRead }
 {}
 
-/// Read, write, read of one block: each fetch goes where the last one put it.
+/// Read, write, read of one block: each fetch goes where the previous one put the block.
 pub fn read_write_read()
     ensures { ReadWriteRead }
 {}
 
-/// Four blocks on one path of three nodes: one waits in the stash.
+/// Four blocks on one path of three nodes: one stays in the stash.
 pub fn full_path()
     ensures { FullPath }
 {}
 
-/// Three requests of one block under way at once: the later two are fake, and all are released by the first.
+/// Three requests of one block under way at once: the later two are fake, and the first one's Done releases all.
 pub fn overlapping_requests()
     ensures whole { OverlappingRequests }
     ensures part { AllIsHeld }
 {}
 
-/// Two write-backs that are acknowledged the later first.
+/// Two write-backs, the later acknowledged first.
 pub fn write_backs_out_of_order()
     ensures { WriteBacksOutOfOrder }
 {}
 
-/// An acknowledgement that leaves the root, since a fetch covers it.
+/// An acknowledgement that keeps the root, since a fetch covers it.
 pub fn kept_under_a_fetch()
     ensures whole { KeptUnderAFetch }
     ensures part { RootIsKept }
@@ -39,7 +39,7 @@ pub fn no_write_back_before_the_period()
     ensures { NoWriteBackBeforeThePeriod }
 {}
 
-/// All of them are lawful.
+/// All worked records are lawful.
 pub fn worked_are_lawful()
     ensures { WorkedAreLawful }
 {}

@@ -1,7 +1,7 @@
-//! Worked records, looked at as the server sees them and beside a second play.
+//! Worked records as the server sees them, and beside a second play.
 ghost use Rattle.tao_model.specs.WorkedPlays.{TraceOutOfOrder, TouchedSinceIsKept, IsTwinOfReads};
 
-/// What the server sees of two write-backs that are acknowledged the later first: each store with its version, first nonce and nodes.
+/// What the server sees of two write-backs, the later acknowledged first: each store with its version, first nonce and nodes.
 pub fn trace_out_of_order()
     ensures { TraceOutOfOrder }
 {}
