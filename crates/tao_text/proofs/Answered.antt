@@ -1,4 +1,4 @@
--- What a reading that was given says of the text.
+-- What a returned script or fault says of the text.
 use Rattle.std.proofs.Common.{◌≡◌, ◌⊎◌, inl, inr, ℕ, ◌^◌, ◌≤◌, List, length, Result, Ok, Err, None}
 use Rattle.std.specs.Prelude.{IfErr, IfOk}
 use Rattle.std.proofs.lemmas.Bool.{le-leb}

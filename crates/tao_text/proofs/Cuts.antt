@@ -1,4 +1,4 @@
--- A text and a line, cut at the first byte that ends a part.
+-- A text or a line, split at the first byte that ends a part.
 use Rattle.std.proofs.Common.{◌≡◌, ◌==◌, ℕ, ◌+◌, ◌<◌, ◌⊎◌, inl, inr, Bool, true, false, cond, List, [], ◌∷◌, length, refl, sym, ap, ◌∙◌, subst, arith, length-drop}
 use Rattle.std.specs.List.{slice_split, before_first, after_first, position_or_len}
 use Rattle.std.proofs.lemmas.Bool.{cases_lt}
@@ -10,7 +10,7 @@ use Rattle.tao_text.specs.Words.{lines, words, has_bytes, without_empty_end}
 pub after_shorter : (p : ℕ → Bool) (xs : List ℕ) → 0 < length xs → length (after_first p xs) < length xs
 after_shorter p xs h = omega (arith, length-drop (position_or_len p xs + 1) xs)
 
--- where the cut is: at an element that passes, or at the end
+-- where it is split: at an element that passes, or at the end
 record IsCut (p : ℕ → Bool) (xs : List ℕ) : Type 0 where
   split : slice_split p xs ≡ before_first p xs ∷ slice_split p (after_first p xs)
 
@@ -30,7 +30,7 @@ cut_or_whole p xs =
       })
     ]
 
--- a first part stays, where parts come after it
+-- a first part stays if others follow
 kept_first : (part : List ℕ) (parts : List (List ℕ)) → 0 < length parts → without_empty_end (part ∷ parts) ≡ part ∷ without_empty_end parts
 kept_first part [] h = absurd (omega arith)
 kept_first part (next ∷ rest) h = refl

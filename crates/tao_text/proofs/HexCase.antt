@@ -1,4 +1,4 @@
--- Hex in either case: what decodes to some bytes is their lower-case spelling once its letters are in lower case.
+-- Hex in either case: what decodes to some bytes is, in lower case, their lower-case hex.
 use Rattle.std.proofs.Common.{◌≡◌, ◌==◌, ℕ, zero, suc, ◌+◌, ◌*◌, ◌/◌, ◌%◌, ◌<◌, ◌≤◌, ◌&&◌, inl, inr, Bool, true, List, [], ◌∷◌, length, map, slice_index, Option, Some, None, Result, Ok, Err, refl, sym, ap, subst, ◌∙◌, arith}
 use Rattle.std.specs.Char.{to_ascii_lowercase}
 use Rattle.std.specs.Str.{str_to_ascii_lowercase}
@@ -10,7 +10,7 @@ use Rattle.hex.specs.declared.error.FromHexError.{FromHexError}
 use Rattle.hex.proofs.HexLemmas.{IsDigits-lower_digits, decode_of-even, decode_of-ok, length-encode_with}
 use Rattle.hex.proofs.Pairs.{decode_pairs-ok_pair, cons_byte}
 
--- a digit's place in the table of lower-case digits holds it in lower case, and what the place holds is such a digit
+-- the value of a hex digit is the place of its lower case in the table
 abbrev same_digit : ℕ → Option ℕ → Bool
 same_digit c None = true
 same_digit c (Some v) = to_ascii_lowercase c == slice_index lower_digits v
@@ -93,7 +93,7 @@ pairs_in_lower i (a ∷ b ∷ rest) bytes h =
     let tail = pairs_in_lower (i + 2) rest more.0 more.1 in
     rw (sym all) (rw (lower_digit a high.0 a_is, lower_digit b low.0 b_is, first, second, tail) refl)
 
--- what is some bytes' spelling in lower case decodes to them
+-- what is some bytes' hex in lower case decodes to them
 pairs_from_lower : (i : ℕ) (word bytes : List ℕ) → IsBytes bytes → map to_ascii_lowercase word ≡ encode_with lower_digits bytes → decode_pairs i word ≡ Ok bytes
 unfolding decode_pairs encode_with
 pairs_from_lower i [] [] small h = refl

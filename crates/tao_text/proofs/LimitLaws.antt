@@ -1,4 +1,4 @@
--- What is within the parameters, and which fault what isn't has.
+-- What is within the parameters, and the fault of what isn't.
 use Rattle.std.proofs.Common.{◌≡◌, ◌≢◌, ◌==◌, ◌⊎◌, inl, inr, ℕ, ◌*◌, ◌%◌, ◌^◌, ◌<◌, ◌≤◌, ◌&&◌, ◌||◌, Bool, true, false, cond, nat_le, nat_lt, length, Some, None, Result, Ok, Err, refl, subst, arith, ltb-false, leb-false}
 use Rattle.std.proofs.lemmas.Bool.{and_parts, and_cases, cases_eq, or_parts, eqb-true, eq-eqb, ltb-true, leb-true}
 use Rattle.tao_base.specs.Limits.{Shape, IsShape, in_form, shape, shape_of, tree_len}
@@ -16,7 +16,7 @@ use Rattle.tao_text.specs.Texts.{IsCallOf, IsEntryOf, IsStepOf}
 
 -- the parameters
 
--- a limit that was kept on the way to a value
+-- if a value was given, the test for a fault was false
 kept : {A E : Type 0} (test : Bool) (rest : Result A E) (e : E) (x : A) → cond test (Err e) rest ≡ Ok x → (test ≡ false) × (rest ≡ Ok x)
 kept true rest e x h = cc h
 kept false rest e x h = (refl, h)
@@ -59,7 +59,7 @@ made l z b n k s h =
       same_ok (shape l z b n k One) s tree.1,
     )
 
--- parameters that were taken keep all limits
+-- accepted parameters are within all limits
 pub shape_keeps : (l z b n k : ℕ) (s : Shape) → shape_of l z b n k ≡ Ok s → IsShape s
 shape_keeps l z b n k s h = let is = made l z b n k s h in subst IsShape is.1 is.0
 
@@ -83,7 +83,7 @@ form_keeps s form is h =
 
 -- entries and steps
 
--- what fits has neither fault, and what doesn't has the one that is answered, Length before Range
+-- what fits has neither fault; anything else has the one that is given, Length before Range
 abbrev pub Fits : Type 0 → Type 0 → Result Unit TextKind → Type 0
 Fits HasLength HasRange (Ok done) = (¬ HasLength) × (¬ HasRange)
 Fits HasLength HasRange (Err TextKind.Length) = HasLength

@@ -1,4 +1,4 @@
--- Which words spell numbers, and which number.
+-- Which words are numbers, and which number.
 use Rattle.std.proofs.Common.{◌≡◌, ℕ, ◌^◌, ◌<◌, ◌≤◌, ◌&&◌, Bool, true, false, nat_lt, List, [], ◌∷◌, length, get_or, Option, Some, None, Result, Ok, Err, refl, sym, ap, subst, ◌∙◌, arith, inl, inr}
 use Rattle.std.specs.Prelude.{decimal}
 use Rattle.std.specs.Option.{ok_or}
@@ -14,7 +14,7 @@ use Rattle.std.proofs.lemmas.Slice.Eq.{bytes_eq-Decides}
 use Rattle.tao_text.specs.Values.{number_below, number_of}
 use Rattle.tao_text.specs.declared.faults.TextKind.TheVariants.{Number}
 
--- a word is the decimal spelling of the number that it gives
+-- a word is the decimal form of the number that is read
 pub number_found : (limit : ℕ) (word : List ℕ) (n : ℕ) → number_below limit word ≡ Some n → (word ≡ decimal n) × (n < limit)
 unfolding number_below
 number_found limit word n h =
@@ -25,7 +25,7 @@ number_found limit word n h =
     let small : value < limit = ltb-true value limit both.1 in
     (spelled ∙ ap decimal parts.1, omega (arith, parts.1))
 
--- and a decimal spelling gives its number
+-- and the decimal form of a number is read as it
 pub number_only : (limit : ℕ) (word : List ℕ) (n : ℕ) → limit ≤ 2 ^ 64 → word ≡ decimal n → n < limit → number_below limit word ≡ Some n
 unfolding number_below
 number_only limit word n most spelled small =
@@ -34,7 +34,7 @@ number_only limit word n most spelled small =
     let same : bytes_eq word (decimal n) ≡ true = (bytes_eq-Decides word (decimal n)).1 spelled in
     rw (value, same, lt-ltb n limit small) refl
 
--- where no number is spelled so, there is none
+-- a word that isn't the decimal form of any number gives none
 none_spelled : (limit : ℕ) (word : List ℕ) → ((n : ℕ) → n < limit → word ≡ decimal n → ⊥) → number_below limit word ≡ None
 unfolding number_below
 none_spelled limit word never =
@@ -45,7 +45,7 @@ none_spelled limit word never =
     never value (ltb-true value limit both.1) ((bytes_eq-Decides word (decimal value)).0 both.0)) in
     rw fails refl
 
--- the first digit of a spelling, and how many there are where it is a zero
+-- the first digit of a number, and how many there are if it is zero
 record IsPlain (word : List ℕ) : Type 0 where
   some : 0 < length word
   digit_low : 48 ≤ get_or word 0 0
@@ -107,7 +107,7 @@ zero_alone [] h len = absurd (omega arith)
 zero_alone (b ∷ []) h len = number_only (2 ^ 64) (b ∷ []) 0 (omega arith) (ap (λ (x : ℕ). x ∷ []) h ∙ sym (decimal_digit 0 (omega arith))) (omega arith)
 zero_alone (b ∷ d ∷ bytes) h len = absurd (omega arith)
 
--- a number of 64 bits that is a Number
+-- when a 64-bit number is a Number
 pub number_small : (word : List ℕ) (n : ℕ) → number_below (2 ^ 64) word ≡ Some n → n < 2 ^ 32 → number_of word ≡ Ok n
 unfolding number_of
 number_small word n h small = ap (λ (o : Option ℕ). ok_or o Number) (number_only (2 ^ 32) word n (omega arith) (number_found (2 ^ 64) word n h).0 small)

@@ -1,4 +1,4 @@
--- Printed lines are words with one space between each two.
+-- Printed lines are words joined by single spaces.
 use Rattle.std.proofs.Common.{◌≡◌, ℕ, List, [], ◌∷◌, ◌++◌, map, refl, sym, ap, ◌∙◌, append_assoc}
 use Rattle.std.specs.Prelude.{decimal, flat_map}
 use Rattle.std.proofs.lemmas.List.{append-nil}
@@ -6,7 +6,7 @@ use Rattle.hex.specs.Hex.{encode_lower}
 use Rattle.tao_base.specs.Lines.{hex_line, spaced, spaced_hex, words_line}
 use Rattle.tao_text.specs.Spelling.{spelled, spelled_line}
 
--- words behind the first, each after a space
+-- words after the first, each after a space
 abbrev further : List (List ℕ) → List ℕ
 further ws = flat_map (λ (w : List ℕ). 32 ∷ w) ws
 

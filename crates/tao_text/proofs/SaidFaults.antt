@@ -1,4 +1,4 @@
--- The fault of a reading, and that of the words at the places of a line form.
+-- The fault of a reading, and that of the words at the places of a form.
 use Rattle.std.proofs.Common.{◌≡◌, ◌⊎◌, inl, inr, ℕ, zero, suc, List, [], ◌∷◌, Option, Some, None, Result, Ok, Err, refl, ⊎_elim, sym, subst, ◌∙◌, arith}
 use Rattle.std.specs.Prelude.{Any}
 use Rattle.tao_text.specs.declared.faults.TextKind.{TextKind}
@@ -18,21 +18,21 @@ abbrev pub or_fault : Option TextKind → Option TextKind → Option TextKind
 or_fault None later = later
 or_fault (Some kind) later = Some kind
 
--- the first word that is no number, and else a later fault
+-- the fault of the first word that isn't a number, or else a later fault
 abbrev pub numbers_fault : List (List ℕ) → Option TextKind → Option TextKind
 numbers_fault [] later = later
 numbers_fault (word ∷ words) later = or_fault (fault_of (number_of word)) (numbers_fault words later)
 
--- the first word that is no hex
+-- the fault of the first word that isn't hex
 abbrev pub values_fault : List (List ℕ) → Option TextKind
 values_fault [] = None
 values_fault (word ∷ words) = or_fault (fault_of (hex_of word)) (values_fault words)
 
--- of words of this form
+-- the fault of words of this form
 abbrev pub fault_in : List Part → List (List ℕ) → Option TextKind
 fault_in form words = numbers_fault (numbers_in form words) (values_fault (values_in form words))
 
--- steps one after another
+-- one step after another
 
 pub step_fault : {A B : Type 0} (r : Result A TextKind) (f : A → Result B TextKind) (later : Option TextKind) → ((x : A) → fault_of (f x) ≡ later) → fault_of (r >>= f) ≡ or_fault (fault_of r) later
 step_fault (Ok x) f later h = h x
@@ -74,7 +74,7 @@ any_cases : {X : Type 0} (P : X → Type 0) (x : X) (xs : List X) → Any P (x �
 any_cases P x xs (zero, y, inside, is, p) = inl (subst P (sym is) p)
 any_cases P x xs (suc k, y, inside, is, p) = inr (k, y, omega arith, is, p)
 
--- some word isn't as it should be, and this is the fault; or all are, and it is a later one
+-- a word isn't as it should be, and this is the fault; or all are, and the fault is a later one
 abbrev pub Shows : (List ℕ → Type 0) → TextKind → List (List ℕ) → Option TextKind → Option TextKind → Type 0
 Shows Bad kind words later fault = ((fault ≡ Some kind) × Any Bad words) ⊎ ((fault ≡ later) × (¬ Any Bad words))
 

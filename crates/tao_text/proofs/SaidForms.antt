@@ -18,7 +18,7 @@ abbrev pub behind : List (List ℕ) → Result Said TextKind
 behind [] = Err Word
 behind (name ∷ words) = said_behind name words
 
--- where the words have this form, they have the fault that is found at its places
+-- words of this form have the fault that is found at its places
 abbrev pub Finds : List (List ℕ) → List Part → Type 0
 Finds words form = IsOfForm words form → fault_of (behind words) ≡ fault_in form words
 

@@ -1,4 +1,4 @@
--- Which fault the words of a line have by themselves.
+-- Which fault the words of a line have without their context.
 use Rattle.std.proofs.Common.{◌≡◌, ◌⊎◌, inl, inr, ℕ, List, slice_index_or, Option, Some, None, Result, Err, refl, sym, ap, subst, ◌∙◌}
 use Rattle.std.specs.Prelude.{Any, Contains}
 use Rattle.std.proofs.lemmas.List.Elements.{All-contains}
@@ -30,7 +30,7 @@ cause_in form words =
 cause : (words : List (List ℕ)) (form : List Part) → Contains line_forms form → IsOfForm words form → Cause form words (fault_of (behind words))
 cause words form at is = subst (Cause form words) (sym (All-contains (Finds words) line_forms form (of_form words) at is)) (cause_in form words)
 
--- each fault that the words have is found, if none of smaller number is
+-- each fault of the words is found, if none with a smaller number is
 
 without_form : (words : List (List ℕ)) (read : Result Said TextKind) → Formed words read → HasNoForm words → fault_of read ≡ Some Word
 without_form words read (Formed.unformed h) bad = ap (λ (r : Result Said TextKind). fault_of r) h

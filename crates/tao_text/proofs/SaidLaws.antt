@@ -1,4 +1,4 @@
--- A line is read as what its words spell, and else it has, of the faults that it has by itself, the one of smallest number.
+-- A line is read as what its words say, or gives the smallest of the faults that don't depend on earlier lines.
 use Rattle.std.proofs.Common.{◌≡◌, ◌⊎◌, inl, inr, ⊎_elim, ℕ, ◌<◌, ◌≤◌, ◌&&◌, true, false, nat_le, List, [], ◌∷◌, slice_index, Option, Some, None, Result, Ok, Err, refl, sym, ap, subst, ◌∙◌, arith, suc}
 use Rattle.std.proofs.lemmas.Bool.{and_cases, and_parts, cases_Bool, cases_eq, eq-eqb, leb-false, leb-true, ne_eqb}
 use Rattle.std.proofs.lemmas.List.Sums.{AllPass-from_list_all}
@@ -108,7 +108,7 @@ skipped_reads line fine skips = skips_by line (line_said line) (line_read line) 
 
 -- faults
 
--- the number of a fault that the words have by themselves; without one, 5
+-- the number of such a fault; 5 without one
 abbrev number_found : Option TextKind → ℕ
 number_found None = 5
 number_found (Some kind) = kind_number kind

@@ -1,4 +1,4 @@
--- Words are read as what they spell.
+-- Words are read as what they say.
 use Rattle.std.proofs.Common.{◌≡◌, ℕ, ◌^◌, ◌<◌, List, [], ◌∷◌, length, map, Some, None, Result, Ok, Err, refl, sym, ap, subst, ◌∙◌, arith, suc}
 use Rattle.std.specs.Prelude.{All, codes, decimal}
 use Rattle.std.specs.List.{AllByRecursion}
@@ -25,7 +25,7 @@ bind_ok (Err kind) f y h = cc h
 same_ok : {A : Type 0} (x y : A) → ◌≡◌ {A = Result A TextKind} (Ok x) (Ok y) → x ≡ y
 same_ok x y h = cc h
 
--- a word that was read as a number, or as a value, before what was read behind it
+-- a word is read as a number, or as a value, before the words after it
 
 number_then : {B P : Type 0} (word : List ℕ) (f : ℕ → Result B TextKind) (y : B) → (number_of word >>= f) ≡ Ok y → ((n : ℕ) → word ≡ decimal n → n < 2 ^ 32 → f n ≡ Ok y → P) → P
 number_then word f y h goes = let n = bind_ok (number_of word) f y h in let is = number_is word n.0 n.1 in goes n.0 is.0 is.1 n.2
@@ -33,7 +33,7 @@ number_then word f y h goes = let n = bind_ok (number_of word) f y h in let is =
 value_then : {B P : Type 0} (word : List ℕ) (f : List ℕ → Result B TextKind) (y : B) → (hex_of word >>= f) ≡ Ok y → ((bytes : List ℕ) → IsHex word bytes → f bytes ≡ Ok y → P) → P
 value_then word f y h goes = let bytes = bind_ok (hex_of word) f y h in goes bytes.0 (hex_is word bytes.0 bytes.1) bytes.2
 
--- what is read is spelled
+-- what is read is what the words say
 
 tree_is : (name : List ℕ) (words : List (List ℕ)) (said : Said) → name ≡ codes "tree" → tree_line words ≡ Ok said → Says (name ∷ words) said
 unfolding tree_line
@@ -162,7 +162,7 @@ put_is name words what is h = absurd cc
 ack_is : (name : List ℕ) (words : List (List ℕ)) (n : ℕ) → name ≡ codes "ack" → number_line words ≡ Ok n → SpellsStep (name ∷ words) (What.Ack n)
 ack_is name words n is h = let number = number_line_is words n h in (rw (is, number.0) refl, number.1)
 
--- a step that was made of something that was read
+-- a value made of something that was read
 made : {A B : Type 0} (P : B → Type 0) (r : Result A TextKind) (f : A → B) (y : B) → ((x : A) → r ≡ Ok x → P (f x)) → (r >>= λ x. Ok (f x)) ≡ Ok y → P y
 made P r f y goes h = let x = bind_ok r (λ x. Ok (f x)) y h in subst P (same_ok (f x.0) y x.2) (goes x.0 x.1)
 
@@ -196,7 +196,7 @@ pub words_are : (words : List (List ℕ)) (said : Said) → behind words ≡ Ok 
 words_are [] said h = absurd cc
 words_are (name ∷ words) said h = line_is name words said h
 
--- what is spelled is read
+-- what the words say is read
 
 numbers_read : (ns : List ℕ) → AllByRecursion (λ n. n < 2 ^ 32) ns → numbers_of (map decimal ns) ≡ Ok ns
 unfolding numbers_of
@@ -221,7 +221,7 @@ call_reads words client (Op.Write id value) is =
     ap call_line is.1 ∙ rw (number_reads (decimal client) client (refl, is.2), number_reads (decimal id) id (refl, is.3), hex_reads is.0 value is.4) refl
 call_reads words client Op.Pad is = ap call_line is.0 ∙ rw (number_reads (decimal client) client (refl, is.1)) refl
 
--- a number that was spelled
+-- a number in decimal
 reads : (n : ℕ) → n < 2 ^ 32 → number_of (decimal n) ≡ Ok n
 reads n small = number_reads (decimal n) n (refl, small)
 

@@ -1,4 +1,4 @@
--- A draft has what the lines so far say; and the next line is added to it, or has a fault that is answered.
+-- A draft has what the lines so far say; the next line is added to it, or gives its fault.
 use Rattle.std.proofs.Common.{◌≡◌, ◌==◌, ℕ, ◌+◌, ◌-◌, ◌<◌, not, Bool, true, false, cond, List, [], ◌∷◌, ◌++◌, length, get_or, Option, Some, None, is_some, is_none, MatchOption, All, Result, Ok, Err, refl, sym, ap, ◌∙◌}
 use Rattle.std.specs.Option.{option_map}
 use Rattle.std.proofs.lemmas.Bool.{and_parts, and_from, eqb-true, eq-eqb, false≢true}
@@ -15,7 +15,7 @@ use Rattle.tao_text.specs.Texts.{IsScript, SaysScript, arrivals_in, step_at}
 use Rattle.tao_text.proofs.LimitLaws.{Fits}
 use Rattle.tao_text.proofs.TextParts.{Lacks, first_lacks, gives_nothing, item_of, lacks_first, last_load, map_none, nothing_given}
 
--- the words of a tape that no block and no arrival has
+-- the words of a tape that no block and no arrival has used
 abbrev pub words_left_of : Script → Option ℕ
 words_left_of script = option_map (λ tape. length tape - (script.params.n + arrivals_in script.steps)) script.tape
 
@@ -52,7 +52,7 @@ can_say ws (Said.Tape tape) says = says.1
 can_say ws (Said.Load entry) says = tt
 can_say ws (Said.Step what) says = tt
 
--- the faults of what a line says, where these are the parameters so far
+-- the faults of what a line says, under the parameters so far
 
 abbrev pub LengthFault : Option Shape → Said → Type 0
 LengthFault so_far said = MatchOption so_far ⊥ (λ s. IsLengthFault s said)
@@ -66,7 +66,7 @@ pub record IsFine (so_far : Option Shape) (items : List Item) (said : Said) : Ty
   pub stands : MayStand items said
   pub enough : ¬ ShortFault so_far items said
 
--- what is said was added and is fine, or has the fault that was answered and none before it
+-- what is said is added and has no fault, or has the fault that is given and none with a smaller number
 abbrev pub Verdict : Option Shape → List Item → ℕ → Said → Result Draft TextKind → Type 0
 Verdict so_far items number said (Ok d) = IsDraftOf (items ++ item_of number said ∷ []) d × IsFine so_far items said
 Verdict so_far items number said (Err TextKind.Length) = LengthFault so_far said

@@ -16,7 +16,7 @@ use Rattle.tao_text.specs.Words.{lines}
 use Rattle.tao_text.proofs.TextDrafts.{IsDraft}
 use Rattle.tao_text.proofs.TextLines.{LineRead, line_breaks, line_goes_on, line_read}
 
--- what lines read behind what was said before, the first of this number
+-- what these lines give after those before them; the first has this number
 
 record Says (before : List Item) (number : ℕ) (ls : List (List ℕ)) (script : Script) : Type 0 where
   items : List Item
@@ -77,7 +77,7 @@ lines_read before draft number [] is = at_end before draft number is
 lines_read before draft number (line ∷ ls) is =
     behind_line before number line ls (line_with draft number line) (λ draft. lines_with draft (number + 1) ls) (line_read before draft number line is) (λ items draft is. lines_read (before ++ items) draft (number + 1) ls is)
 
--- and behind lines that are read it goes on with the next
+-- after lines without a fault it goes on with the next
 
 record Follows (draft : Option Draft) (number : ℕ) (front back : List (List ℕ)) (items : List Item) : Type 0 where
   answer : Option Draft
@@ -153,7 +153,7 @@ break_is bytes fault h =
       | Many many ↦ inl (many, same_fault (fault_at 0 TextKind.TooLong) fault (sym (many_bytes bytes many) ∙ h))
     ]
 
--- and what it answers for a text of a script, and for one that breaks
+-- what is given for the text of a script, and for one with a fault
 
 no_shape : (s : Shape) → ◌≡◌ {A = Option Shape} (Some s) None → ⊥
 no_shape s h = cc h

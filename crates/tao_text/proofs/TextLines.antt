@@ -1,4 +1,4 @@
--- One line: it is read and goes on from what was said before, or its first fault is answered.
+-- One line: it is read after those before it, or gives its first fault.
 use Rattle.std.proofs.Common.{◌≡◌, ◌==◌, inl, inr, ℕ, ◌<◌, cond, List, [], ◌∷◌, ◌++◌, Option, Some, None, Result, Ok, Err, refl, sym, ap, subst, ◌∙◌, arith, append-nil}
 use Rattle.std.proofs.lemmas.Bool.{cases_order}
 use Rattle.tao_base.specs.Limits.{Shape}
@@ -67,7 +67,7 @@ one_first before line kind other is again =
     ]
 
 module _ (before : List Item) (line : List ℕ) (read : Option Said) (h : line_said line ≡ Ok read) where
-  -- where a line reads, none of its faults is below a limit, if none of those is that look back
+  -- a line that is read has no fault below the limit, if it has none that depends on earlier lines
   none_below : (limit : ℕ) → (5 < limit → ¬ HasFault before line TextKind.Length) → (6 < limit → ¬ HasFault before line TextKind.Range) → (7 < limit → ¬ HasFault before line TextKind.Order)
       → (8 < limit → ¬ HasFault before line TextKind.TapeShort) → (kind : TextKind) → kind_number kind < limit → ¬ HasFault before line kind
   none_below limit long range order short TextKind.NotText low = no_early_fault before line read TextKind.NotText h (omega arith)
@@ -147,12 +147,12 @@ by_reading before draft number line (Ok None) is h = skipped_line before draft n
 by_reading before draft number line (Ok (Some said)) is h = said_line before number line said h (next draft number said) (judged before draft number said is (can_say (words line) said (said_is line said h).2))
 by_reading before draft number line (Err kind) is h = fault_is before line kind h
 
--- what the reading of a line answers
+-- what reading a line gives
 pub line_read : (before : List Item) (draft : Option Draft) (number : ℕ) (line : List ℕ) → IsDraft before draft → LineRead before number line (line_with draft number line)
 unfolding line_with
 line_read before draft number line is = by_reading before draft number line (line_said line) is refl
 
--- and what it answers where a line is read, and where it has a fault
+-- the result for a line without a fault, and for one with a fault
 
 same_items : (number : ℕ) (said other : Said) → said ≡ other → item_of number said ∷ [] ≡ item_of number other ∷ []
 same_items number said other h = ap (λ (s : Said). item_of number s ∷ []) h

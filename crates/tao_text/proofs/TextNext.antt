@@ -1,4 +1,4 @@
--- One line more: it is added to the draft, or it has the fault that is answered.
+-- One more line: it is added to the draft, or gives its fault.
 use Rattle.std.proofs.Common.{◌≡◌, ◌==◌, inl, inr, ℕ, zero, suc, ◌+◌, ◌-◌, ◌^◌, ◌<◌, ◌≤◌, not, Bool, true, false, cond, nat_lt, List, [], ◌∷◌, ◌++◌, length, map, replicate, Option, Some, None, is_some, is_none, is_err, IfSome, IsSome, MatchOption, All, count_by, unwrap_or, Result, Ok, Err, refl, sym, ap, ap₂, subst, ◌∙◌, arith, add-zero, ltb-false}
 use Rattle.std.specs.Prelude.{filter_map}
 use Rattle.std.specs.List.Sorted.{IsStrictlyIncreasing}
@@ -429,7 +429,7 @@ module _ (items : List Item) (d : Draft) (number : ℕ) (is : IsDraftOf items d)
           | inr other ↦ rw other (not_arrived other)
         ]
 
--- a line behind the line `tree`
+-- a line after the `tree` line
 
 form_tested : (so_far : Option Shape) (items : List Item) (number : ℕ) (said : Said) (test : Bool) (s : Shape) (rest : Shape → Result Draft TextKind)
     → (test ≡ true → Verdict so_far items number said (Err TextKind.Range)) → (test ≡ false → Verdict so_far items number said (rest s))

@@ -1,4 +1,4 @@
--- The parts of what was said, and one item more.
+-- The parts of what was said, with one more item.
 use Rattle.std.proofs.Common.{◌≡◌, inl, inr, ℕ, ◌+◌, ◌-◌, ◌<◌, Bool, true, cond, List, [], ◌∷◌, ◌++◌, length, slice_get, get_or, Option, Some, None, IfSome, All, count_by, refl, ap, ◌∙◌, arith, append-nil, length-append}
 use Rattle.std.specs.Prelude.{filter_map}
 use Rattle.std.specs.List.{cons_option}
@@ -18,7 +18,7 @@ use Rattle.tao_text.specs.Scripts.{is_above}
 abbrev pub item_of : ℕ → Said → Item
 item_of number said = record { line = number; said = said }
 
--- what a test gives of items with one more
+-- what a filter gives of items with one more
 
 module _ {X Y : Type 0} (h : X → Option Y) (xs : List X) (x : X) where
   pub filtered_same : h x ≡ None → filter_map h (xs ++ x ∷ []) ≡ filter_map h xs
@@ -31,7 +31,7 @@ first_comes : {Y : Type 0} (ys : List Y) (y : Y) → slice_get ys 0 ≡ None →
 first_comes [] y h = refl
 first_comes (x ∷ ys) y h = cc h
 
--- the first line of a part, with one item more
+-- the first line with a part, with one more item
 
 module _ {A : Type 0} (part : Said → Option A) (items : List Item) (number : ℕ) (said : Said) where
   pub first_same : part said ≡ None → first_line part (items ++ item_of number said ∷ []) ≡ first_line part items
@@ -42,7 +42,7 @@ module _ {A : Type 0} (part : Said → Option A) (items : List Item) (number : �
       ap (λ (ys : List (ℕ × A)). slice_get ys 0) (filtered_more (λ item. option_map (λ x. (item.line, x)) (part item.said)) items (item_of number said) (number, x) (ap (option_map (λ x. (number, x))) some))
       ∙ first_comes (filter_map (λ item. option_map (λ x. (item.line, x)) (part item.said)) items) (number, x) none
 
--- what holds of all that a test gives
+-- what holds of all that a filter gives
 
 module _ {X Y : Type 0} (P : Y → Type 0) (h : X → Option Y) where
   split : (o : Option Y) (ys : List Y) → All P (cons_option o ys) → IfSome o P × All P ys

@@ -1,4 +1,4 @@
--- A line may stand where the draft's tests let it, and only there.
+-- A line is allowed exactly where the draft's tests let it.
 use Rattle.std.proofs.Common.{◌≡◌, ◌==◌, ℕ, ◌<◌, ◌≤◌, true, List, length, get_or, Option, Some, None, IfSome, MatchOption, All, refl, sym, subst, arith}
 use Rattle.std.proofs.lemmas.Bool.{and_parts, and_from, eqb-true, eq-eqb}
 use Rattle.tao_base.specs.declared.storage.Entry.{Entry}
@@ -9,7 +9,7 @@ use Rattle.tao_text.specs.Scripts.{is_above, may_load, no_form, no_key, no_loads
 use Rattle.tao_text.proofs.TextDrafts.{IsDraftOf, form_lacks, key_lacks, lacks_form, lacks_key, lacks_loads, lacks_steps, lacks_tape, loads_lack, no_steps, tape_lacks}
 use Rattle.tao_text.proofs.TextParts.{above_all, all_given, given_all, last_load}
 
--- what says nothing of a place and of those behind it stands before it
+-- a line that has no part of a place or a later one stands before it
 
 no_such : {A : Type 0} (x : A) → ◌≡◌ {A = Option A} (Some x) None → ⊥
 no_such x h = cc h
@@ -35,7 +35,7 @@ before_form (Said.Load entry) none key tape load step = absurd (no_such entry lo
 before_form (Said.Step what) none key tape load step = absurd (no_such what step)
 before_form said none key tape load step = omega arith
 
--- and what stands before a place says nothing of it
+-- and a line that stands before a place has no part of it
 
 no_step_before : (said : Said) → place_of said < 5 → step_of said ≡ None
 no_step_before (Said.Step what) h = absurd (omega arith)
@@ -72,7 +72,7 @@ below_behind : (id : ℕ) (said : Said) → MatchOption (load_of said) (place_of
 below_behind id (Said.Load entry) h = h
 below_behind id said h = tt
 
--- a line stands
+-- when a line is allowed
 
 abbrev pub Before : List Item → ℕ → Type 0
 Before items place = All (λ item. place_of item.said < place) items

@@ -1,4 +1,4 @@
--- The readings of numbers and bytes are their spellings.
+-- Numbers are read from decimal, and bytes from hex.
 use Rattle.std.proofs.Common.{◌≡◌, ℕ, ◌^◌, List, Option, Some, None, Result, Ok, Err, ap, arith}
 use Rattle.std.specs.Option.{ok_or}
 use Rattle.hex.specs.Hex.{decode_of}

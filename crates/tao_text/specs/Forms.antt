@@ -1,4 +1,4 @@
--- The reading of one line, whatever stands before it: what it says, or the fault of smallest number that its words have.
+-- Parsing a single line without its context: what it says, or the fault with the smallest number that its words have.
 use Rattle.std.specs.Prelude.{ℕ, ◌==◌, ◌&&◌, nat_le, Bool, List, [], ◌∷◌, slice_index, codes, Option, Some, None, Result, Ok, Err, if◌then◌else◌}
 use Rattle.std.specs.List.{list_all}
 use Rattle.std.specs.Str.{bytes_eq}
@@ -14,7 +14,7 @@ use Rattle.tao_text.specs.Values.{number_of, hex_of}
 use Rattle.tao_text.specs.Words.{words}
 
 infixl 10 ◌>>=◌
--- the next step, where the first gave a value
+-- the next step, if the first gave a value
 abbrev pub ◌>>=◌ : {A B : Type 0} → Result A TextKind → (A → Result B TextKind) → Result B TextKind
 Ok x >>= f = f x
 Err kind >>= f = Err kind
@@ -30,7 +30,7 @@ tree_line (l ∷ z ∷ b ∷ n ∷ k ∷ []) = do
   Ok (Said.Tree l z b n k)
 tree_line _ = Err Word
 
--- the form that a word names, `1`, `2` or `turn`; any other word is the fault Word
+-- the form that a word names, `1`, `2` or `turn`; any other word gives the fault Word
 abbrev pub form_named : List ℕ → Result Form TextKind
 form_named name =
     if bytes_eq name (codes "1") then Ok One
@@ -53,7 +53,7 @@ unfoldable pub seal_line : List (List ℕ) → Result Said TextKind
 seal_line [] = Ok Said.Seal
 seal_line (word ∷ words) = Err Word
 
--- the numbers that the words spell, or the fault Number where one spells none
+-- the numbers that the words are, or the fault Number if one isn't
 unfoldable pub numbers_of : List (List ℕ) → Result (List ℕ) TextKind
 numbers_of [] = Ok []
 numbers_of (word ∷ words) = do
@@ -74,7 +74,7 @@ load_line (id ∷ hex ∷ []) = do
   Ok (record { id = id; value = value })
 load_line _ = Err Word
 
--- `C read ID`, by the word of the client and those behind `read`
+-- `C read ID`, from the client's word and those after `read`
 unfoldable pub read_words : List ℕ → List (List ℕ) → Result (ℕ × Op) TextKind
 read_words client (id ∷ []) = do
   client ← number_of client
@@ -82,7 +82,7 @@ read_words client (id ∷ []) = do
   Ok (client, Op.Read id)
 read_words client _ = Err Word
 
--- `C write ID HEX`, by the word of the client and those behind `write`
+-- `C write ID HEX`, from the client's word and those after `write`
 unfoldable pub write_words : List ℕ → List (List ℕ) → Result (ℕ × Op) TextKind
 write_words client (id ∷ hex ∷ []) = do
   client ← number_of client
@@ -91,14 +91,14 @@ write_words client (id ∷ hex ∷ []) = do
   Ok (client, Op.Write id value)
 write_words client _ = Err Word
 
--- `C pad`, by the word of the client and those behind `pad`, of which there may be none
+-- `C pad`, from the client's word and those after `pad`, of which there must be none
 unfoldable pub pad_words : List ℕ → List (List ℕ) → Result (ℕ × Op) TextKind
 pad_words client [] = do
   client ← number_of client
   Ok (client, Op.Pad)
 pad_words client (word ∷ words) = Err Word
 
--- behind `do` or `a`: `C read ID`, `C write ID HEX` or `C pad`
+-- after `do` or `a`: `C read ID`, `C write ID HEX` or `C pad`
 unfoldable pub call_line : List (List ℕ) → Result (ℕ × Op) TextKind
 call_line (client ∷ name ∷ words) =
     if bytes_eq name (codes "read") then read_words client words
@@ -134,7 +134,7 @@ unfoldable pub number_line : List (List ℕ) → Result ℕ TextKind
 number_line (number ∷ []) = number_of number
 number_line _ = Err Word
 
--- a step, by the first word and those behind it
+-- a step, from its first word and those after it
 unfoldable pub step_behind : List ℕ → List (List ℕ) → Result What TextKind
 step_behind name words =
     if bytes_eq name (codes "do") then (call_line words >>= λ call. Ok (What.Do call.0 call.1))
@@ -145,7 +145,7 @@ step_behind name words =
     else if bytes_eq name (codes "ack") then (number_line words >>= λ version. Ok (What.Ack version))
     else Err Word
 
--- a line, by the first word and those behind it
+-- a line, from its first word and those after it
 unfoldable pub said_behind : List ℕ → List (List ℕ) → Result Said TextKind
 said_behind name words =
     if bytes_eq name (codes "tree") then tree_line words
@@ -161,11 +161,11 @@ said_behind name words =
 unfoldable pub is_text : List ℕ → Bool
 is_text line = list_all (λ b. nat_le 32 b && nat_le b 126) line
 
--- nothing where there are no words, or the first one begins a comment
+-- None without words or for a comment
 abbrev pub words_said : List (List ℕ) → Result (Option Said) TextKind
 words_said [] = Ok None
 words_said (name ∷ words) = if slice_index name 0 == 35 then Ok None else (said_behind name words >>= λ said. Ok (Some said))
 
--- what a line says, if it isn't skipped
+-- what a line says, unless it is skipped
 unfoldable pub line_said : List ℕ → Result (Option Said) TextKind
 line_said line = if is_text line then words_said (words line) else Err NotText

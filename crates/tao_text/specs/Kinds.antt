@@ -3,7 +3,7 @@ use Rattle.std.specs.Prelude.{ℕ, List, ◌++◌, codes, decimal}
 use Rattle.tao_text.specs.declared.faults.TextKind.{TextKind}
 use Rattle.tao_text.specs.declared.faults.TextKind.TheVariants.{NotText, Word, Number, Hex, Length, Range, Order, TapeShort, TooLong, Memory}
 
--- the name that a kind of fault is told by
+-- the name of a kind of fault
 abbrev pub kind_name : TextKind → List ℕ
 kind_name NotText = codes "NotText"
 kind_name Word = codes "Word"
@@ -20,7 +20,7 @@ kind_name Memory = codes "Memory"
 abbrev pub fault_text : ℕ → TextKind → List ℕ
 fault_text line kind = codes "line " ++ decimal line ++ codes ": " ++ kind_name kind
 
--- the smaller number counts
+-- of several kinds the one with the smallest number is reported
 abbrev pub kind_number : TextKind → ℕ
 kind_number NotText = 1
 kind_number Word = 2

@@ -1,4 +1,4 @@
--- What is within the parameters: values as long as a block, and ids, clients, depths and nodes in range.
+-- Checks against the parameters: values as long as a block, and ids, clients, depths and nodes in range.
 use Rattle.std.specs.Prelude.{ℕ, ◌==◌, ◌&&◌, nat_le, nat_lt, length, Result, Ok, Err, Some, None, if◌then◌else◌}
 use Rattle.tao_base.specs.Limits.{Shape, shape_of}
 use Rattle.tao_base.specs.Tree.{node_count}
@@ -9,26 +9,26 @@ use Rattle.tao_text.specs.declared.faults.TextKind.{TextKind}
 use Rattle.tao_text.specs.declared.faults.TextKind.TheVariants.{Length, Range}
 use Rattle.tao_text.specs.declared.script.What.{What}
 
--- parameters, or the fault Range, whichever of their limits is broken
+-- parameters, or the fault Range for any of their limits
 abbrev pub or_range : Result Shape ParamFault → Result Shape TextKind
 or_range (Ok s) = Ok s
 or_range (Err fault) = Err Range
 
--- the parameters of a line `tree`, in form 1, or Range where they are past a limit
+-- the parameters of a `tree` line, untagged, or Range if they are past a limit
 unfoldable pub params_of : ℕ → ℕ → ℕ → ℕ → ℕ → Result Shape TextKind
 params_of l z b n k = or_range (shape_of l z b n k)
 
--- a load's value is as long as a block, else the fault is Length; and its id is one of the n, else it is Range
+-- a load's value is as long as a block, else Length; and its id is below n, else Range
 unfoldable pub entry_fits : Shape → Entry → Result Unit TextKind
 entry_fits s entry = if length entry.value == s.b then (if nat_lt entry.id s.n then Ok tt else Err Range) else Err Length
 
--- a write's value is as long as a block, else the fault is Length; and client and id are in range, else it is Range
+-- a write's value is as long as a block, else Length; and client and id are in range, else Range
 unfoldable pub call_fits : Shape → ℕ → Op → Result Unit TextKind
 call_fits s client (Op.Read id) = if nat_le client 63 && nat_lt id s.n then Ok tt else Err Range
 call_fits s client (Op.Write id value) = if length value == s.b then (if nat_le client 63 && nat_lt id s.n then Ok tt else Err Range) else Err Length
 call_fits s client Op.Pad = if nat_le client 63 then Ok tt else Err Range
 
--- A step's value is as long as a block, and its client, id, depth and node are in range; else its fault. Fetches and versions may be any.
+-- the same for a step, and its depth or node is in range, else Range; a fetch or a version may be any number
 unfoldable pub step_fits : Shape → What → Result Unit TextKind
 step_fits s (What.Do client op) = call_fits s client op
 step_fits s (What.A client op) = call_fits s client op

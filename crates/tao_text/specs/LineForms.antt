@@ -1,15 +1,15 @@
--- The forms that a line can have, by its words.
+-- The forms of lines, by their words.
 use Rattle.std.specs.Prelude.{◌≡◌, ℕ, List, [], ◌∷◌, codes, ⊤}
 
--- a place of a line form
+-- one place in a form
 pub data Part : Type 0 where
-  -- just this word
+  -- this very word
   Fixed : List ℕ → Part
   -- a number
   ANumber : Part
   -- bytes in hex
   AValue : Part
-  -- numbers to the end of the line, one or more
+  -- one or more numbers, to the end of the line
   TheNumbers : Part
 
 -- all line forms
@@ -38,7 +38,7 @@ line_forms =
     ∷ (Fixed (codes "ack") ∷ ANumber ∷ [])
     ∷ []
 
--- the words are as many as the form has places, and its fixed words stand at theirs
+-- the words match the places of the form one by one, the fixed words exactly
 abbrev pub IsOfForm : List (List ℕ) → List Part → Type 0
 IsOfForm [] [] = ⊤
 IsOfForm [] (part ∷ parts) = ⊥

@@ -1,4 +1,4 @@
--- What the words of a line say: one clause a line form. Hex may be in digits of either case.
+-- What the words of a line say, form by form. Hex may be in either case.
 use Rattle.std.specs.Prelude.{◌≡◌, ℕ, ◌^◌, ◌<◌, ◌≤◌, List, [], ◌∷◌, ◌++◌, length, map, codes, decimal, All, Some, None}
 use Rattle.std.specs.List.{join_with_byte}
 use Rattle.std.specs.Str.{str_to_ascii_lowercase}
@@ -10,7 +10,7 @@ use Rattle.tao_base.specs.declared.storage.Entry.{Entry}
 use Rattle.tao_text.specs.declared.said.Said.{Said}
 use Rattle.tao_text.specs.declared.script.What.{What}
 
--- the word is the decimal spelling of a number below 2 ^ 32
+-- the word is a number below 2 ^ 32 in decimal
 abbrev pub IsNumber : List ℕ → ℕ → Type 0
 IsNumber word n = (word ≡ decimal n) × (n < 2 ^ 32)
 
@@ -18,21 +18,21 @@ IsNumber word n = (word ≡ decimal n) × (n < 2 ^ 32)
 abbrev pub IsHex : List ℕ → List ℕ → Type 0
 IsHex word bytes = (str_to_ascii_lowercase word ≡ encode_lower bytes) × IsBytes bytes
 
--- a tape of one word or more
+-- a tape of one or more words
 abbrev pub IsTape : List ℕ → Type 0
 IsTape tape = (0 < length tape) × All (λ n. n < 2 ^ 32) tape
 
--- the word behind `form` that names a form
+-- the word after `form` that names a form
 abbrev pub form_word : Form → List ℕ
 form_word One = codes "1"
 form_word Two = codes "2"
 form_word Turn = codes "turn"
 
--- the words behind `load` that spell an entry
+-- the words after `load` that give an entry
 abbrev pub SpellsLoad : List (List ℕ) → Entry → Type 0
 SpellsLoad words entry = (hex : List ℕ) × (words ≡ decimal entry.id ∷ hex ∷ []) × (entry.id < 2 ^ 32) × IsHex hex entry.value
 
--- the words behind `do` or `a` that spell a client and its operation
+-- the words after `do` or `a` that give a client and its operation
 abbrev pub SpellsCall : List (List ℕ) → ℕ → Op → Type 0
 SpellsCall words client (Op.Read id) = (words ≡ decimal client ∷ codes "read" ∷ decimal id ∷ []) × (client < 2 ^ 32) × (id < 2 ^ 32)
 SpellsCall words client (Op.Write id value) = (hex : List ℕ) × (words ≡ decimal client ∷ codes "write" ∷ decimal id ∷ hex ∷ []) × (client < 2 ^ 32) × (id < 2 ^ 32) × IsHex hex value
@@ -65,10 +65,10 @@ pub record IsWord (word : List ℕ) : Type 0 where
   pub some : 0 < length word
   pub bytes : All (λ b. (33 ≤ b) × (b ≤ 126)) word
 
--- words with one space between each two
+-- words joined by single spaces
 abbrev pub spelled : List (List ℕ) → List ℕ
 spelled ws = join_with_byte 32 ws
 
--- such a line of a text
+-- the same as a line of a text
 abbrev pub spelled_line : List (List ℕ) → List ℕ
 spelled_line ws = spelled ws ++ 10 ∷ []

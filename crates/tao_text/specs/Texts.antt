@@ -1,4 +1,4 @@
--- Which bytes are a script, and where others break first.
+-- Which bytes are a script, and what is the first fault of others.
 use Rattle.std.specs.Prelude.{◌≡◌, ◌⊎◌, ℕ, ◌+◌, ◌^◌, ◌<◌, ◌≤◌, false, List, [], ◌∷◌, ◌++◌, length, filter_map, replicate, map, count_by, unwrap_or, Option, Some, None, All, IfSome, ⊤}
 use Rattle.std.specs.List.Sorted.{IsStrictlyIncreasing}
 use Rattle.std.specs.Option.{option_map}
@@ -21,16 +21,16 @@ pub record ReadsLine (before : List Item) (number : ℕ) (line : List ℕ) (item
   pub fine : (kind : TextKind) → ¬ HasFault before line kind
   pub says : (IsSkipped (words line) × (items ≡ [])) ⊎ ((¬ IsSkipped (words line)) × ((said : Said) × Says (words line) said × (items ≡ record { line = number; said = said } ∷ [])))
 
--- lines without a fault, the first of this number, behind what was said before
+-- lines without a fault after those before them; the first has this number
 abbrev pub ReadsLines : List Item → ℕ → List (List ℕ) → List Item → Type 0
 ReadsLines before number [] after = after ≡ before
 ReadsLines before number (line ∷ rest) after = (items : List Item) × ReadsLine before number line items × ReadsLines (before ++ items) (number + 1) rest after
 
--- the step that a line is, with the line's number
+-- the step of a line, with its line number
 abbrev pub step_at : Item → Option Step
 step_at item = option_map (λ what. record { line = item.line; what = what }) (step_of item.said)
 
--- the script that the lines say: a key of zeros where there is no other
+-- the script that the lines give; without a `key` line its key is zeros
 pub record SaysScript (items : List Item) (script : Script) : Type 0 where
   pub params : Some script.params ≡ shape_said items
   pub tree_line : Some script.tree_line ≡ option_map (λ at. at.0) (first_line tree_of items)
@@ -61,30 +61,30 @@ pub record BreaksAtLine (bytes : List ℕ) (fault : TextFault) : Type 0 where
   pub number : fault.line ≡ length front + 1
   pub kind : IsFirstFault items line fault.kind
 
--- a text of skipped lines alone breaks behind its last line
+-- a text of skipped lines alone has its fault after the last line
 pub record BreaksAtEnd (bytes : List ℕ) (fault : TextFault) : Type 0 where
   pub few : length bytes ≤ 2 ^ 24
   pub reads : ReadsLines [] 1 (lines bytes) []
   pub number : fault.line ≡ length (lines bytes) + 1
   pub kind : fault.kind ≡ TextKind.Order
 
--- the first break of a text
+-- the first fault of a text
 abbrev pub FirstBreak : List ℕ → TextFault → Type 0
 FirstBreak bytes fault = ((2 ^ 24 < length bytes) × (fault ≡ record { line = 0; kind = TextKind.TooLong })) ⊎ (BreaksAtLine bytes fault ⊎ BreaksAtEnd bytes fault)
 
--- the limits that every script keeps
+-- the limits of every script
 
--- a load has a value as long as a block and an id of the n
+-- a load has a value as long as a block, and an id below n
 abbrev pub IsEntryOf : Shape → Entry → Type 0
 IsEntryOf s entry = (length entry.value ≡ s.b) × (entry.id < s.n)
 
--- a client of at most 63 asks for a block of the n, and writes a value as long as a block; a pad is on no block
+-- a client is at most 63, an id is below n, and a written value is as long as a block; a pad has no block
 abbrev pub IsCallOf : Shape → ℕ → Op → Type 0
 IsCallOf s client (Op.Read id) = (client ≤ 63) × (id < s.n)
 IsCallOf s client (Op.Write id value) = (length value ≡ s.b) × (client ≤ 63) × (id < s.n)
 IsCallOf s client Op.Pad = client ≤ 63
 
--- the arrival of a step is within the limits, a depth is at most l, a node is one of the tree; fetches and versions may be any
+-- the operation is within the limits, a depth is at most l, a node is in the tree; a fetch or a version may be any number
 abbrev pub IsStepOf : Shape → What → Type 0
 IsStepOf s (What.Do client op) = IsCallOf s client op
 IsStepOf s (What.A client op) = IsCallOf s client op
@@ -95,12 +95,12 @@ IsStepOf s (What.Put version None) = ⊤
 IsStepOf s (What.Put version (Some node)) = (1 ≤ node) × (node ≤ node_count s.l)
 IsStepOf s (What.Ack version) = ⊤
 
--- how many arrivals these steps have
+-- the number of arrivals in these steps
 abbrev pub arrivals_in : List Step → ℕ
 arrivals_in steps = count_by (λ step. is_arrival step.what) steps
 
--- A script's parameters are within their limits and its key has 32 bytes. Its tape, where it has one, is of words below 2 ^ 32, enough for
--- all blocks and arrivals. Its loads, of rising ids, and its steps are within the parameters.
+-- A script's parameters are within their limits, and its key has 32 bytes. A listed tape has words below 2 ^ 32, enough for all blocks and
+-- arrivals. The loads, of rising ids, and the steps are within the parameters.
 pub record IsScript (script : Script) : Type 0 where
   pub params : IsShape script.params
   pub key : length script.key ≡ 32

@@ -1,4 +1,4 @@
--- A text as lines, and a line as words.
+-- The lines of a text, and the words of a line.
 use Rattle.std.specs.Prelude.{◌≡◌, ℕ, ◌==◌, Bool, true, false, List, [], ◌∷◌, filter, if◌then◌else◌}
 use Rattle.std.specs.List.{slice_split}
 
@@ -7,7 +7,7 @@ abbrev pub has_bytes : List ℕ → Bool
 has_bytes [] = false
 has_bytes (b ∷ bytes) = true
 
--- all parts, but for a last one that is empty
+-- all parts but an empty last one
 abbrev pub without_empty_end : List (List ℕ) → List (List ℕ)
 without_empty_end [] = []
 without_empty_end (last ∷ []) = if has_bytes last then last ∷ [] else []
@@ -17,10 +17,10 @@ without_empty_end (part ∷ next ∷ rest) = part ∷ without_empty_end (next �
 unfoldable pub lines : List ℕ → List (List ℕ)
 lines text = without_empty_end (slice_split (λ b. b == 10) text)
 
--- the words of a line: what stands between spaces, one or more
+-- the words of a line, which one or more spaces separate
 unfoldable pub words : List ℕ → List (List ℕ)
 words line = filter has_bytes (slice_split (λ b. b == 32) line)
 
--- a word stands there
+-- there is a word
 abbrev pub HasWords : List (List ℕ) → Type 0
 HasWords parts = (word : List ℕ) × (more : List (List ℕ)) × (parts ≡ word ∷ more)

@@ -1,4 +1,4 @@
-//! The script that grows line by line.
+//! A script, built line by line.
 ghost use Rattle.std.specs.Prelude.{◌≡◌, ◌-◌, length, slice_get, IfOk};
 ghost use Rattle.tao_text.specs.Breaks.{is_arrival};
 ghost use Rattle.tao_text.specs.Scripts.{add, add_form, add_key, add_load, add_step, add_tape, empty_script, is_above, no_key, no_loads, no_tape, one_less, opening};
@@ -11,17 +11,17 @@ use crate::script::{Script, Step, Steps, What};
 use std::alloc::Global;
 use tao_base::{Block, Entries, Entry, Form, NoMemory, Numbers, Params};
 
-/// What the lines so far say, from the line `tree` on.
+/// What was read so far, from the `tree` line on.
 #[derive(Debug, Drop)]
 pub(crate) struct Draft {
     pub(crate) script: Script,
     has_key: bool,
-    // how many words of the tape, where it is a list, no arrival has used yet
+    // for a tape of a list: how many of its words no arrival has used yet
     words_left: Option<usize>,
 }
 
 #[tactic(auto, unfolding(crate::specs::Scripts::opening))]
-/// Begins with a line of this number, which has to be `tree`.
+/// Starts a draft with the first line, which has to be `tree`.
 pub(crate) fn open(alloc: Global, number: u32, said: Said) -> Result<Draft, TextKind>
     ensures { Gives (λ draft. draft) result (opening number said) }
 {
@@ -53,7 +53,7 @@ fn empty_script(alloc: Global, tree_line: u32, params: Params) -> Result<Script,
 }
 
 #[tactic(auto, unfolding(crate::specs::Scripts::add))]
-/// Goes on with a line of this number.
+/// Adds the line of this number.
 pub(crate) fn add(draft: &mut Draft, number: u32, said: Said) -> Result<(), TextKind>
     ensures { Gives (λ _. draft.new) result (add draft.old number said) }
 {
@@ -151,7 +151,7 @@ fn is_arrival(what: &What) -> bool
     }
 }
 
-// What an arrival leaves of the words.
+// How many words are left after an arrival.
 fn one_less(words_left: Option<usize>) -> Result<Option<usize>, TextKind>
     ensures { result ≡ one_less words_left }
 {
@@ -162,28 +162,28 @@ fn one_less(words_left: Option<usize>) -> Result<Option<usize>, TextKind>
     }
 }
 
-// Whether no line of its kind or a later one stands before a `key` line.
+// Whether a `key` line may come next: no key, tape, load or step so far.
 fn no_key(draft: &Draft) -> bool
     ensures { result ≡ no_key draft.now }
 {
     !draft.has_key && no_tape(draft)
 }
 
-// The same of a `tape` line.
+// Whether a `tape` line may come next: no tape, load or step so far.
 fn no_tape(draft: &Draft) -> bool
     ensures { result ≡ no_tape draft.now }
 {
     draft.script.tape.is_none() && no_loads(draft)
 }
 
-// Whether no line `load` and no step stands there.
+// Whether there is no load and no step so far.
 fn no_loads(draft: &Draft) -> bool
     ensures { result ≡ no_loads draft.now }
 {
     draft.script.loads.as_slice().is_empty() && draft.script.steps.as_slice().is_empty()
 }
 
-// Whether the id is greater than the last one.
+// Whether the id is greater than that of the last load, if any.
 fn is_above(loads: &Entries, id: u32) -> bool
     ensures { result ≡ is_above (slice_get loads.now (length loads.now - 1)) id }
 {

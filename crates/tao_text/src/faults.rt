@@ -4,22 +4,22 @@ use std::error::Error;
 use std::fmt;
 use tao_base::NoMemory;
 
-/// What is wrong with a line. On the first line with a fault, the kind of the smallest number counts.
+/// What is wrong with a line. If several kinds apply, the one with the smallest number is reported.
 #[derive(Clone, Copy, Debug, PartialEq, Eq)]
 pub enum TextKind {
     /// A byte is neither printable ASCII nor a space.
     NotText = 1,
-    /// The first word or the operation's word is unknown, or there are too few words or too many.
+    /// The first word or the operation is unknown, or there are too few or too many words.
     Word = 2,
-    /// A number is not written in decimal digits without a leading zero, or is too large.
+    /// A number isn't decimal, has a leading zero, or is too large.
     Number = 3,
     /// A value is not an even number of hexadecimal digits.
     Hex = 4,
-    /// A value has not as many bytes as a block, or a key not 32.
+    /// A value isn't as long as a block, or a key isn't 32 bytes long.
     Length = 5,
     /// A number is out of its range, or the parameters are past a limit.
     Range = 6,
-    /// The line may not stand at its place or in this text.
+    /// The line isn't allowed at this place, or not in this kind of text.
     Order = 7,
     /// The tape has too few words.
     TapeShort = 8,
@@ -33,7 +33,7 @@ impl TextKind {
     ghost use Rattle.std.specs.Prelude.{◌≡◌};
     ghost use Rattle.tao_text.specs.Kinds.{kind_name};
 
-    /// The name by which a transcript tells the fault.
+    /// The fault's name in a transcript.
     pub fn name(self) -> &'static str
         ensures { result.now ≡ kind_name self }
     {
@@ -76,7 +76,7 @@ impl From<NoMemory> for TextKind {
     }
 }
 
-/// The first fault of a text: its line, counted from 1, and what is wrong there. Line 0 is the text as a whole.
+/// The first fault of a text: its line, counted from 1, and its kind. Line 0 stands for the whole text.
 #[derive(Clone, Copy, Debug, PartialEq, Eq)]
 pub struct TextFault {
     pub line: u32,

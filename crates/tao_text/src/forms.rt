@@ -1,4 +1,4 @@
-//! What the lines of a script say, whatever stands before them.
+//! Parses single lines of a script, without their context.
 ghost use Rattle.std.specs.Prelude.{◌≡◌};
 ghost use Rattle.tao_text.specs.Forms.{call_line, form_line, is_text, line_said, load_line, number_line, numbers_of, put_line, read_line, read_words, said_behind, seal_line, step_behind, tape_line, tree_line, value_line, write_words, pad_words};
 ghost use Rattle.tao_text.specs.Values.{Gives};
@@ -13,7 +13,7 @@ use std::alloc::Global;
 use tao_base::{Block, Entry, Form, Numbers, Op};
 
 #[tactic(auto, unfolding(crate::specs::Forms::line_said))]
-/// What a line says: nothing where it has no words or is a comment.
+/// What a line says: None for a blank line or a comment.
 pub(crate) fn line_said(alloc: Global, line: &[u8]) -> Result<Option<Said>, TextKind>
     ensures { Gives (λ said. said) result (line_said line.now) }
 {
@@ -38,7 +38,7 @@ fn is_text(line: &[u8]) -> bool
 }
 
 #[tactic(auto, unfolding(crate::specs::Forms::said_behind))]
-// What a line says by its first word and the line behind it.
+// Parses a line by its first word; `rest` is what follows it.
 fn said_behind(alloc: Global, name: &[u8], rest: &[u8]) -> Result<Said, TextKind>
     ensures { Gives (λ said. said) result (said_behind name.now (words rest.now)) }
 {
@@ -67,7 +67,7 @@ fn said_behind(alloc: Global, name: &[u8], rest: &[u8]) -> Result<Said, TextKind
 }
 
 #[tactic(auto, unfolding(crate::specs::Forms::step_behind))]
-// The step of a line by its first word.
+// Parses a step by its first word.
 fn step_behind(alloc: Global, name: &[u8], rest: &[u8]) -> Result<What, TextKind>
     ensures { Gives (λ what. what) result (step_behind name.now (words rest.now)) }
 {
@@ -188,7 +188,7 @@ fn load_line(alloc: Global, line: &[u8]) -> Result<Entry, TextKind>
 }
 
 #[tactic(auto, unfolding(crate::specs::Forms::call_line))]
-// The client and the operation of `do C read ID`, `do C write ID HEX` or `do C pad`, and of the same behind `a`.
+// What follows `do` or `a`: `C read ID`, `C write ID HEX` or `C pad`
 fn call_line(alloc: Global, line: &[u8]) -> Result<(u32, Op), TextKind>
     ensures { Gives (λ call. call) result (call_line (words line.now)) }
 {

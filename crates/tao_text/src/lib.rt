@@ -1,4 +1,4 @@
-//! Texts: scripts that are read, and lines that are printed.
+//! Texts: reads scripts, and prints lines.
 #![tactic(auto)]
 
 mod draft;

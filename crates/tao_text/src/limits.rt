@@ -1,4 +1,4 @@
-//! What is within the parameters.
+//! Checks what a script says against its parameters.
 ghost use Rattle.std.specs.Prelude.{◌≡◌};
 ghost use Rattle.tao_text.specs.Limits.{call_fits, entry_fits, params_of, step_fits};
 
@@ -10,7 +10,7 @@ use tao_base::{Entry, Op, Params};
 const MOST_CLIENT: u32 = 63;
 
 #[tactic(auto, unfolding(crate::specs::Limits::params_of))]
-/// The parameters of these numbers.
+/// The parameters, untagged, or Range if they are past a limit.
 pub(crate) fn params_of(l: u32, z: u32, b: u32, n: u32, k: u32) -> Result<Params, TextKind>
     ensures { result ≡ params_of l z b n k }
 {
@@ -21,7 +21,7 @@ pub(crate) fn params_of(l: u32, z: u32, b: u32, n: u32, k: u32) -> Result<Params
 }
 
 #[tactic(auto, unfolding(crate::specs::Limits::entry_fits))]
-/// Whether an entry is within the parameters.
+/// Checks a load against the parameters.
 pub(crate) fn entry_fits(params: &Params, entry: &Entry) -> Result<(), TextKind>
     ensures { result ≡ entry_fits params.now entry.now }
 {
@@ -35,7 +35,7 @@ pub(crate) fn entry_fits(params: &Params, entry: &Entry) -> Result<(), TextKind>
 }
 
 #[tactic(auto, unfolding(crate::specs::Limits::step_fits))]
-/// Whether a step is within the parameters.
+/// Checks a step against the parameters.
 pub(crate) fn step_fits(params: &Params, what: &What) -> Result<(), TextKind>
     ensures { result ≡ step_fits params.now what.now }
 {
@@ -49,7 +49,7 @@ pub(crate) fn step_fits(params: &Params, what: &What) -> Result<(), TextKind>
 }
 
 #[tactic(auto, unfolding(crate::specs::Limits::call_fits))]
-// Whether a client and its operation are within the parameters.
+// Checks a client and its operation against the parameters.
 fn call_fits(params: &Params, client: u32, op: &Op) -> Result<(), TextKind>
     ensures { result ≡ call_fits params.now client op.now }
 {

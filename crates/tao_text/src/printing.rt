@@ -1,4 +1,4 @@
-//! Lines of a text, appended to an image: a word, then words, numbers and blocks, each after one space, and byte 10.
+//! Appends lines of text to an image: a first word, then words, numbers and blocks, each after one space, and byte 10.
 ghost use Rattle.std.specs.Prelude.{◌≡◌, ◌<◌, [], ◌∷◌, ◌++◌, length, flat_map, OnOk, OnErr};
 ghost use Rattle.hex.specs.Hex.{encode_lower};
 ghost use Rattle.tao_base.specs.Lines.{spaced, spaced_hex, words_line, hex_line};
@@ -58,8 +58,8 @@ fn hex_and_end(out: &mut Image, word: &str, numbers: &[u64], value: &Block) -> R
     end_line(out)
 }
 
-/// Appends the first word of a line. The pieces of a line may have appended a front of theirs where memory ran out: cut the image back to
-/// the length that it had at the line's beginning.
+/// Appends the first word of a line. If memory runs out, a prefix of the piece may have been appended: truncate the image to its length
+/// before the line.
 pub fn begin_line(out: &mut Image, word: &str) -> Result<(), NoMemory>
     ensures ok { OnOk result (out.new ≡ out.old ++ word.now) }
     ensures err { OnErr result (Extends out.old out.new) }
@@ -122,7 +122,7 @@ pub fn end_line(out: &mut Image) -> Result<(), NoMemory>
     out.push(b'\n')
 }
 
-// how many bytes are spelled at once
+// how many bytes are converted to hex at once
 const CHUNK: usize = 64;
 
 fn push_chunk(out: &mut Image, bytes: &[u8]) -> Result<(), NoMemory>

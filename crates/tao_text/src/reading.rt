@@ -1,4 +1,4 @@
-//! Scripts are read, line by line.
+//! Reads a script, line by line.
 ghost use Rattle.std.specs.Prelude.{◌≡◌, ◌⊎◌, ◌^◌, ◌≤◌, ◌<◌, length, None, IfOk, IfErr};
 ghost use Rattle.tao_text.specs.Texts.{FirstBreak, IsScript, IsScriptText};
 ghost use Rattle.tao_text.specs.Scripts.{line_with, lines_with, no_memory, reading, GivesLine, GivesScript};
@@ -12,12 +12,12 @@ use crate::script::Script;
 use crate::words::next_line;
 use std::alloc::Global;
 
-// the greatest number of bytes of a text
+// the maximum length of a text in bytes
 const MOST_BYTES: usize = 1 << 24;
 
 #[tactic(auto, using(crate::proofs::Answered::is_text, crate::proofs::Answered::keeps_limits, crate::proofs::Answered::is_break), unfolding(crate::specs::Scripts::reading))]
-/// The script that the bytes are, or their first break: the first line with a fault, counted from 1, and of its faults the kind of smallest
-/// number. A text of more than 2^24 bytes has the fault TooLong, and want of memory the fault Memory, both with line 0.
+/// Reads a script, or gives the first line with a fault, counted from 1, and the kind with the smallest number of its faults. A text of
+/// more than 2^24 bytes gives TooLong, and running out of memory gives Memory, both with line 0.
 pub fn read_script(alloc: Global, bytes: &[u8]) -> Result<Script, TextFault>
     ensures read { GivesScript result (reading bytes.now) }
     ensures script { IfOk result (IsScriptText bytes.now) }

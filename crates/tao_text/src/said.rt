@@ -1,9 +1,9 @@
-//! What one line says, whatever stands before it.
+//! What a single line says, without its context.
 
 use crate::script::What;
 use tao_base::{Block, Entry, Form, Image, Numbers};
 
-/// A line that says something, by its first word.
+/// A parsed line, by its first word.
 #[derive(Debug, Drop)]
 pub(crate) enum Said {
     /// `tree L Z B N k`

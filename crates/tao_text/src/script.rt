@@ -2,19 +2,19 @@
 
 use tao_base::{Entries, Image, Items, Numbers, Op, Params};
 
-/// A store and what is done with it: its parameters, the key of its tape, the tape's words where the text gives them in place of the
-/// key's, the first values of blocks by rising ids, and the steps.
+/// A store and what is done with it: its parameters, the key of its tape, the tape's words if the text lists them in place of the key's,
+/// the first values of blocks by rising ids, and the steps.
 #[derive(Debug, Drop)]
 pub struct Script {
     pub params: Params,
-    /// The number of the line `tree`, counted from 1.
+    /// The line number of `tree`, counted from 1.
     pub tree_line: u32,
-    /// That of the line `form`, where there is one.
+    /// The line number of `form`, if there is one.
     pub form_line: Option<u32>,
     pub key: [u8; 32],
-    /// Whether the session is to be sealed when it ends. No script asks for it.
+    /// Whether to seal the session when it ends. No script asks for it.
     pub seal: bool,
-    /// A sealed state that is opened again. No script has one.
+    /// A sealed state to reopen. No script has one.
     pub reopen: Option<Image>,
     pub tape: Option<Numbers>,
     pub loads: Entries,
@@ -33,16 +33,16 @@ pub type Steps = Items<Step>;
 /// What happens in one step.
 #[derive(Debug, Drop)]
 pub enum What {
-    /// An arrival of this client's operation, and all that follows of it: its reads, its path taken in, and for a write-back that it
-    /// issues all puts and the acknowledgement.
+    /// An arrival of this client's operation and all that follows: its reads, its path admitted, and if it issues a write-back, all puts
+    /// and the acknowledgement.
     Do(u32, Op),
     /// An arrival of this client's operation.
     A(u32, Op),
-    /// The server reads for the fetch of this number all buckets not yet read, root first, or the one at a depth.
+    /// For this fetch the server reads all buckets not yet read, root first, or the one at a depth.
     Read(u64, Option<u32>),
     /// The whole path of this fetch reaches the proxy.
     Done(u64),
-    /// The server gets all buckets not yet put of the write-back of this version, by rising nodes, or that of a node.
+    /// The server stores all buckets of this write-back that it hasn't stored yet, by rising nodes, or the one of a node.
     Put(u32, Option<u32>),
     /// The acknowledgement of this write-back reaches the proxy.
     Ack(u32),

@@ -6,7 +6,7 @@ use std::alloc::Global;
 use std::test::Fail;
 use tao_base::{Block, Form, Image, NoMemory, Op};
 
-// scripts with each kind of line, and the lines of their steps
+// scripts with each kind of line, and the line numbers of their steps
 static SCRIPTS: [(&str, &[u32]); 4] = [
     (
         "tree 2 2 4 2 1\ntape 0 3 2 1 2\nload 0 61616161\ndo 0 read 0\ndo 0 write 0 62626262\ndo 1 read 0\n",
@@ -35,7 +35,7 @@ fn scripts(rt: HostRuntime) -> Result<(), Fail> {
     Ok(())
 }
 
-// a script as a text
+// Prints a script as a text.
 fn spelling(alloc: Global, script: &Script) -> Result<Image, NoMemory> {
     let mut out = Image::new(alloc);
     spell_header(alloc, &mut out, script)?;
@@ -112,7 +112,7 @@ fn spell_call(out: &mut Image, name: &str, client: u32, op: &Op) -> Result<(), N
     end_line(out)
 }
 
-// comments, blank lines, further spaces, digits of upper case and a last line without its end
+// comments, blank lines, extra spaces, upper-case hex, and a last line without byte 10
 #[test]
 fn loose_text(rt: HostRuntime) -> Result<(), Fail> {
     let text = " \n#tree\n  tree  1 1 4 1 1\n\n # a\nload 0  00FFabCD\n\ndo 0 read 0 ";
@@ -126,7 +126,7 @@ fn loose_text(rt: HostRuntime) -> Result<(), Fail> {
     Ok(())
 }
 
-// texts that break, the line, and the kind
+// faulty texts, with the line and the kind of the fault
 static BREAKS: [(&str, u32, TextKind); 34] = [
     ("", 1, TextKind::Order),
     ("#\n\n", 3, TextKind::Order),

@@ -1,4 +1,4 @@
-//! Numbers and bytes as words spell them.
+//! Parses words as numbers and bytes.
 ghost use Rattle.std.specs.Prelude.{◌≡◌, ◌^◌};
 ghost use Rattle.tao_text.specs.Values.{Gives, hex_of, number_below, number_of};
 
@@ -8,7 +8,7 @@ use std::alloc::Global;
 use tao_base::Block;
 
 #[tactic(auto, using(crate::proofs::Numbers::number_small, crate::proofs::Numbers::number_large, crate::proofs::Numbers::number_none))]
-/// The Number that a word spells.
+/// Parses a Number, which is below 2^32.
 pub(crate) fn number_of(word: &[u8]) -> Result<u32, TextKind>
     ensures { result ≡ number_of word.now }
 {
@@ -22,7 +22,7 @@ pub(crate) fn number_of(word: &[u8]) -> Result<u32, TextKind>
 }
 
 #[tactic(auto, using(crate::proofs::Numbers::none_empty, crate::proofs::Numbers::none_plus, crate::proofs::Numbers::none_zeros, crate::proofs::Numbers::zero_alone, crate::proofs::Numbers::none_no_text, crate::proofs::Numbers::parsed))]
-/// The number of up to 64 bits that a word spells.
+/// Parses a number of up to 64 bits.
 pub(crate) fn wide_number(word: &[u8]) -> Option<u64>
     ensures { result ≡ number_below (2 ^ 64) word.now }
 {
@@ -42,7 +42,7 @@ pub(crate) fn wide_number(word: &[u8]) -> Option<u64>
 }
 
 #[tactic(auto, unfolding(crate::specs::Values::hex_of))]
-/// The bytes whose hex a word is.
+/// Decodes hex in either case.
 pub(crate) fn hex_of(alloc: Global, word: &[u8]) -> Result<Block, TextKind>
     ensures { Gives (λ bytes. bytes) result (hex_of word.now) }
 {

@@ -1,4 +1,4 @@
-//! The lines of a text and the words of a line.
+//! Splits a text into lines, and a line into words.
 ghost use Rattle.std.specs.Prelude.{◌≡◌, ◌==◌, ◌<◌, [], ◌∷◌, length, position, MatchOption, MatchResult, OnOk, IfErr};
 ghost use Rattle.std.specs.List.{before_first, after_first};
 ghost use Rattle.tao_text.specs.Words.{HasWords, lines, words};
@@ -6,7 +6,7 @@ ghost use Rattle.tao_text.specs.Words.{HasWords, lines, words};
 use crate::faults::TextKind;
 
 #[tactic(auto, using(crate::proofs::Cuts::lines_none, crate::proofs::Cuts::lines_cut, crate::proofs::Cuts::after_shorter))]
-/// The first line of a text, and the text after its end.
+/// The first line of a text, and the rest.
 pub(crate) fn next_line(text: &[u8]) -> Option<(&[u8], &[u8])>
     ensures { MatchOption result (lines text.now ≡ []) (λ r. (lines text.now ≡ r.0.now ∷ lines r.1.now) × (length r.1.now < length text.now)) }
 {
@@ -17,7 +17,7 @@ pub(crate) fn next_line(text: &[u8]) -> Option<(&[u8], &[u8])>
 }
 
 #[tactic(auto, using(crate::proofs::Cuts::words_none, crate::proofs::Cuts::words_more, crate::proofs::Cuts::words_after_space, crate::proofs::Cuts::after_shorter))]
-/// The first word of a line, and the line after it; a line without words has the fault Word.
+/// The first word of a line, and the rest. A line without words gives the fault Word.
 pub(crate) fn next_word(line: &[u8]) -> Result<(&[u8], &[u8]), TextKind>
     ensures { MatchResult result (λ r. (words line.now ≡ r.0.now ∷ words r.1.now) × (length r.1.now < length line.now)) (λ kind. (kind ≡ TextKind.Word) × (words line.now ≡ [])) }
 {
@@ -32,7 +32,7 @@ pub(crate) fn next_word(line: &[u8]) -> Result<(&[u8], &[u8]), TextKind>
     Err(TextKind::Word)
 }
 
-/// Nothing where the line has no words, and else the fault Word.
+/// Gives the fault Word if there are more words.
 pub(crate) fn no_more_words(line: &[u8]) -> Result<(), TextKind>
     ensures ok { OnOk result (words line.now ≡ []) }
     ensures err { IfErr result (λ kind. (kind ≡ TextKind.Word) × HasWords (words line.now)) }
@@ -43,7 +43,7 @@ pub(crate) fn no_more_words(line: &[u8]) -> Result<(), TextKind>
     }
 }
 
-// What stands before the byte, and what after it; all and nothing where it doesn't stand there.
+// Splits at the first such byte, which goes to neither part; without one, the second part is empty.
 fn cut_at(byte: u8, bytes: &[u8]) -> (&[u8], &[u8])
     ensures front { result.0.now ≡ before_first (λ b. b == byte) bytes.now }
     ensures back { result.1.now ≡ after_first (λ b. b == byte) bytes.now }
