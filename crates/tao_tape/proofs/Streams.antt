@@ -31,7 +31,7 @@ byte_of_word key n i c h =
     let r : (4 * i + c) % 4 ≡ c = omega arith in
     ap₂ (λ a b. slice_index (to_le_bytes w32 (stream_word key n a)) b) q r
 
--- the bytes of word i, which stand from `at` on, are xored, as many as there are
+-- the bytes of word i are xored, from `at` on, as many as there are
 pub xored_more : (key : List ℕ) (n i at : ℕ) (old before after word : List ℕ) → at ≡ 4 * i → word ≡ to_le_bytes w32 (stream_word key n i)
     → ((t : ℕ) → t < 4 * i → get_or before t 0 ≡ xored_byte key n old t)
     → ((t : ℕ) → 4 * i ≤ t → get_or before t 0 ≡ get_or old t 0)

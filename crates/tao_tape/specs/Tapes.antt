@@ -1,4 +1,4 @@
--- What the words of a tape are, by its source and their places.
+-- The words of a tape, by its source and their places.
 use Rattle.std.specs.Prelude.{ℕ, zero, suc, ◌-◌, ◌^◌, List, [], ◌∷◌, length, slice_index}
 use Rattle.tao_tape.specs.Keystream.{stream_word}
 
@@ -27,14 +27,14 @@ list_word words j = slice_index words j
 abbrev pub list_left : List ℕ → ℕ → ℕ
 list_left words place = length words - place
 
--- a tape of either kind, whose source begins with 0 before a key and with 1 before words
+-- the words of a tape of either kind, whose source is 0 and a key, or 1 and a list
 abbrev pub either_word : List ℕ → ℕ → ℕ
 either_word [] j = 0
 either_word (zero ∷ key) j = key_word key j
 either_word (suc zero ∷ words) j = list_word words j
 either_word (suc (suc _) ∷ _) j = 0
 
--- how many words of such a tape are left from a place on; none where its source begins with neither 0 nor 1
+-- how many words of such a tape are left from a place on; none if its source begins with neither 0 nor 1
 abbrev pub either_left : List ℕ → ℕ → ℕ
 either_left [] place = 0
 either_left (zero ∷ key) place = key_left key place

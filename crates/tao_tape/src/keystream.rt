@@ -6,8 +6,8 @@ use rand_chacha::ChaCha20Rng;
 use rand_core::SeedableRng;
 use rand_core::utils::NextWord;
 
-/// Xors each byte with the byte of stream `nonce` at its place. A stream is the keystream of ChaCha20 (RFC 8439) from block 0 on, with 64
-/// bits each for the block counter and the nonce; a word of it gives four bytes, the low one first.
+/// Xors each byte with the byte of stream `nonce` at the same place. A stream is the keystream of ChaCha20 (RFC 8439) from block 0 on, with
+/// 64 bits each for the block counter and the nonce; its words are little-endian.
 pub fn xor_stream(key: &[u8; 32], nonce: u64, bytes: &mut [u8])
     ensures { bytes.new ≡ xored key.now nonce bytes.old }
 {
@@ -36,7 +36,7 @@ fn xor_word(word: [u8; 4], at: usize, bytes: &mut [u8])
     bytes[at + 3] ^= word[3];
 }
 
-// Xors the bytes from `at` on, which are fewer than a word has.
+// Xors the last bytes, from `at` on, which are fewer than a word.
 fn xor_last(word: [u8; 4], at: usize, bytes: &mut [u8])
     requires from { at ≤ length bytes.old }
     requires few { length bytes.old ≤ at + 4 }
@@ -48,7 +48,7 @@ fn xor_last(word: [u8; 4], at: usize, bytes: &mut [u8])
     }
 }
 
-/// Whoever xors with the same stream twice has the bytes again.
+/// Xoring twice with the same stream gives the bytes back.
 pub fn xor_stream_undoes_itself()
     ensures { (key : List ℕ) (nonce : ℕ) (bytes : List ℕ) → xored key nonce (xored key nonce bytes) ≡ bytes }
 {}

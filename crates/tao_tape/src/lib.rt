@@ -1,4 +1,4 @@
-//! Tapes of words, of a key or of a list, and the keystreams of a key.
+//! Tapes of words, from a key or a list, and the keystreams of a key.
 #![tactic(auto)]
 
 mod key;

@@ -6,7 +6,7 @@ use crate::tape::Tape;
 use std::marker::Model;
 use tao_base::Numbers;
 
-/// Words that are given, as those of a script.
+/// Words that are listed, as in a script.
 #[derive(Debug, Drop)]
 pub struct ListTape {
     words: Numbers,

@@ -1,4 +1,4 @@
-//! The tape of a text that may have either kind.
+//! A tape of either kind.
 ghost use Rattle.std.specs.Prelude.{◌≡◌, ◌+◌, ◌≤◌};
 ghost use Rattle.tao_tape.specs.Tapes.{either_word, either_left};
 
@@ -6,7 +6,7 @@ use crate::key::KeyTape;
 use crate::list::ListTape;
 use crate::tape::Tape;
 
-/// The tape of a key or of a list, where only the text that is read says which.
+/// The tape of a key or of a list, whichever the text asks for.
 #[derive(Debug, Drop)]
 pub enum ScriptTape {
     Key(KeyTape),

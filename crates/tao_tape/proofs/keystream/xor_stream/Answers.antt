@@ -1,4 +1,4 @@
--- Each turn xors the four bytes of a word; what is left at the end is less than a word.
+-- Each turn xors the four bytes of a word; less than a word is left at the end.
 use Rattle.std.proofs.Common.{◌*◌, ◌/◌, length, refl, ap, ◌∙◌, arith}
 use Rattle.std.specs.Int.{w32, to_le_bytes}
 use Rattle.tao_tape.proofs.Streams.{drawn_word, drawn_stream, xored_more, all_xored}

@@ -1,4 +1,4 @@
--- The bytes of the words drawn so far are xored, and those behind them are as they were.
+-- The bytes of the words drawn so far are xored, and those after them are as they were.
 use Rattle.std.proofs.Common.{◌≡◌, ℕ, ◌*◌, ◌≤◌, ◌<◌, slice_index}
 use Rattle.tao_tape.specs.Keystream.{xored_byte}
 use Rattle.tao_tape.proofs.Streams.{stream_at}
