@@ -20,14 +20,14 @@ pub fn hmac(key: &[u8], text: &[u8]) -> [u8; 32]
 }
 
 #[tactic(auto, unfolding(crate::specs::Tags::tag_key))]
-/// The key for the tags of a store's buckets: the tag of the one byte 01 under the store's own key, whose keystreams buckets are xored with.
+/// The key for tagging a store's buckets: the tag of the single byte 01 under the store's key, whose keystreams the buckets are xored with.
 pub fn tag_key(key: &[u8; 32]) -> [u8; 32]
     ensures { result ≡ tag_key key.now }
 {
     hmac(key, &[1])
 }
 
-// The key filled up with zero bytes to a block, each byte xored with `pad`.
+// The key, padded with zero bytes to a block, each byte xored with `pad`.
 fn padded(key: &[u8], pad: u8) -> [u8; 64]
     requires { length key.now ≤ 64 }
     ensures { result ≡ padded key.now pad }

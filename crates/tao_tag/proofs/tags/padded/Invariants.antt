@@ -1,4 +1,4 @@
--- The bytes of the key so far are there, xored; those behind them are xored zero bytes.
+-- The key's bytes so far are in place, xored; the others are xored zero bytes.
 use Rattle.std.proofs.Common.{◌≡◌, ℕ, ◌≤◌, ◌<◌, length, slice_index, bit_xor}
 use Rattle.tao_tag.proofs.tags.padded.Given as goal
 
