@@ -1,4 +1,4 @@
--- Numbers of the nodes of a path, changed from the root on.
+-- Numbers of the nodes of a path, changed one by one from the root on.
 use Rattle.std.proofs.Common.{◌≡◌, ℕ, ◌+◌, ◌-◌, ◌*◌, ◌^◌, ◌<◌, ◌≤◌, Bool, true, false, ◌||◌, nat_eq, cond, List, [], ◌∷◌, length, get_or, set, map, refl, sym, ap, ◌∙◌, subst, ⊎_elim, arith, zero-add}
 use Rattle.std.proofs.Math.Pow.{pow_mono}
 use Rattle.std.proofs.lemmas.Bool.{cases_eq, cases_Bool, eqb-true, eq-eqb, ne_eqb}
@@ -12,7 +12,7 @@ use Rattle.std.specs.List.{list_any, range_with_len}
 use Rattle.tao_base.specs.Tree.{is_on_path, node_at}
 use Rattle.tao_base.proofs.TreeLemmas.{node_low, node_high}
 
--- whether a node is one of the first so many of the path to a leaf
+-- whether a node is among the first d of the path to a leaf
 abbrev pub on_first : ℕ → ℕ → ℕ → ℕ → Bool
 on_first l leaf d node = list_any (nat_eq node) (map (node_at l leaf) (range_with_len 0 d))
 
@@ -73,7 +73,7 @@ below l leaf d small deep =
     let high : node_at l leaf d < 2 * 2 ^ d = node_high l leaf d small (omega arith) in
     omega arith
 
--- the first so many were raised by 1, lowered by 1, or given this number
+-- the first d were raised by 1, lowered by 1, or set to this number
 abbrev pub Raised : List ℕ → List ℕ → ℕ → ℕ → ℕ → Type 0
 Raised old new l leaf d = (node : ℕ) → get_or new node 0 ≡ get_or old node 0 + cond (on_first l leaf d node) 1 0
 
@@ -135,13 +135,6 @@ marked_more old new t l leaf d x small deep is len marked = λ node.
     get_or-set_other new x node t 0 other ∙ marked node
     ∙ ap (λ (b : Bool). cond b t (get_or old node 0)) (sym (more_other l leaf d node (λ same. other (same ∙ sym is)))))
     (cases_eq node x)
-
--- the next number to be raised is as it was, and the next to be lowered is one of the path
-pub next_raised : (old new : List ℕ) (l leaf d x : ℕ) → leaf < 2 ^ l → d < l + 1 → x ≡ node_at l leaf d → Raised old new l leaf d → get_or new x 0 ≡ get_or old x 0
-next_raised old new l leaf d x small deep is raised =
-    let none : on_first l leaf d x ≡ false = ap (λ w. on_first l leaf d w) is ∙ fresh l leaf d small deep in
-    let was : get_or new x 0 ≡ get_or old x 0 + 0 = raised x ∙ ap (λ (b : Bool). get_or old x 0 + cond b 1 0) none in
-    omega arith
 
 pub next_lowered : (old new : List ℕ) (l leaf d x : ℕ) → leaf < 2 ^ l → d < l + 1 → x ≡ node_at l leaf d → ((node : ℕ) → is_on_path l leaf node ≡ true → 1 ≤ get_or old node 0)
     → Lowered old new l leaf d → 1 ≤ get_or new x 0

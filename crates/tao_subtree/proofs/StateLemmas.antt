@@ -1,9 +1,7 @@
--- The slots as the residents.
-use Rattle.std.proofs.Common.{◌≡◌, ℕ, ◌+◌, ◌*◌, ◌^◌, ◌<◌, ◌≤◌, Bool, true, false, ◌&&◌, ◌==◌, nat_eq, nat_le, cond, List, Option, Some, None, length, get_or, set, refl, sym, ap, ◌∙◌, subst, ⊎_elim, arith, is_some, option_and_then, replicate, zero, suc, ◌||◌, take, ◌++◌, ◌∷◌, []}
+-- The slots hold the residents.
+use Rattle.std.proofs.Common.{◌≡◌, ℕ, ◌+◌, ◌*◌, ◌^◌, ◌<◌, ◌≤◌, Bool, true, false, ◌&&◌, ◌==◌, nat_eq, nat_le, cond, List, Option, Some, None, length, get_or, set, refl, sym, ap, ◌∙◌, subst, ⊎_elim, arith, is_some, option_and_then, replicate, zero, suc}
 use Rattle.std.proofs.lemmas.Bool.{cases_eq, cases_lt, eq-eqb, ne_eqb, le-leb, and_from, and_left}
-use Rattle.std.proofs.lemmas.List.{get_or_past, get_or_read, get_or-set_same, get_or-set_other, take_more}
-use Rattle.std.proofs.lemmas.List.Folds.{list_any-append}
-use Rattle.std.specs.List.{list_any}
+use Rattle.std.proofs.lemmas.List.{get_or_past, get_or_read, get_or-set_same, get_or-set_other}
 use Rattle.std.specs.Option.{IsSomeAnd}
 use Rattle.tao_base.specs.declared.storage.Bucket.{Bucket}
 use Rattle.tao_base.specs.declared.storage.Entry.{Entry}
@@ -12,18 +10,18 @@ use Rattle.tao_slots.specs.SlotMap as slots
 use Rattle.tao_base.specs.Limits.{Shape}
 use Rattle.tao_base.specs.Tree.{is_on_path}
 use Rattle.tao_subtree.specs.Parts.{state_of}
-use Rattle.tao_subtree.specs.Residents.{SubtreeState, resident_at, touch_at, count_at, may_leave, with_entries, empty_subtree, ForgetsOne, Forgets, BeginsFetch, AreFew}
+use Rattle.tao_subtree.specs.Residents.{SubtreeState, resident_at, touch_at, count_at, may_leave, with_entries, empty_subtree, ForgetsOne, BeginsFetch, AreFew}
 
 some_and : (o : Option Bucket) (node : ℕ) → IsSomeAnd o (λ bucket. bucket.node ≡ node) → is_some o ≡ true
 some_and None node h = absurd h
 some_and (Some b) node h = refl
 
--- a node's slot is found exactly where it is held
+-- a slot is found exactly for a held node
 pub found_held : (m : SlotMap) (node : ℕ) (o : Option ℕ) → IsSlotMap m → IsSlotOf m o node → is_some o ≡ is_some (bucket_at m node)
 found_held m node None sound found = sym (ap is_some found)
 found_held m node (Some slot) sound found = sym (some_and (bucket_at m node) node (sound.held slot node found))
 
--- a node that is held has a place
+-- a held node is within the list
 pub held_below : (m : SlotMap) (node slot : ℕ) → IsSlotMap m → node_of m slot ≡ Some node → node < length m.buckets
 held_below m node slot sound found = ⊎_elim (λ below. below)
     (λ past. absurd (subst (λ (o : Option Bucket). IsSomeAnd o (λ bucket. bucket.node ≡ node)) (get_or_past m.buckets node None past) (sound.held slot node found)))
@@ -33,7 +31,7 @@ held_below m node slot sound found = ⊎_elim (λ below. below)
 slot_bucket : (m : SlotMap) (node slot : ℕ) → node_of m slot ≡ Some node → bucket_in m slot ≡ bucket_at m node
 slot_bucket m node slot found = ap (option_and_then (bucket_at m)) found
 
--- an exchange of entries, as of a resident
+-- an exchange of entries is one of a resident's entries
 pub swapped_state : (s : Shape) (m new : SlotMap) (cs ts vs : List ℕ) (state : SubtreeState) (node slot : ℕ) (given back : List Entry) → state_of s m cs ts vs ≡ state → IsSlotMap m → node_of m slot ≡ Some node
     → IsSomeAnd (bucket_in m slot) (λ b. (new ≡ slots.with_entries m b given) × (back ≡ b.entries))
     → IsSomeAnd (resident_at state node) (λ b. (state_of s new cs ts vs ≡ with_entries state node b given) × (back ≡ b.entries))
@@ -86,33 +84,6 @@ forgot_one s m new cs ts vs state version node slot bucket view sound found held
 
     gone : may_leave (state_of s m cs ts vs) version node ≡ true → ForgetsOne (state_of s m cs ts vs) (state_of s new cs ts vs) version node
     gone l = record { residents = at (state_of s m cs ts vs) refl l; others = refl }
-
-two_steps : (a e m : Bool) (r : Option Bucket) → cond (e && m) None (cond (a && m) None r) ≡ cond ((a || (e || false)) && m) None r
-two_steps true true true r = refl
-two_steps true true false r = refl
-two_steps true false true r = refl
-two_steps true false false r = refl
-two_steps false true true r = refl
-two_steps false true false r = refl
-two_steps false false true r = refl
-two_steps false false false r = refl
-
--- one more node of the list is forgotten
-pub forgot_more : (old mid new : SubtreeState) (version at i : ℕ) (nodes : List ℕ) → i < length nodes → at ≡ get_or nodes i at → Forgets old mid version (take i nodes) → ForgetsOne mid new version at
-    → Forgets old new version (take (i + 1) nodes)
-forgot_more old mid new version at i nodes within is before one = record {
-  residents = λ w.
-      let same : may_leave mid version w ≡ may_leave old version w = ap (λ (st : SubtreeState). may_leave st version w) before.others in
-      let split : list_any (nat_eq w) (take (i + 1) nodes) ≡ (list_any (nat_eq w) (take i nodes) || (nat_eq w at || false)) =
-      ap (λ (all : List ℕ). list_any (nat_eq w) all) (take_more nodes i at within ∙ ap (λ n. take i nodes ++ n ∷ []) (sym is)) ∙ list_any-append (nat_eq w) (take i nodes) (at ∷ [])
-      in
-      one.residents w
-      ∙ ap (λ (b : Bool). cond (nat_eq w at && b) None (resident_at mid w)) same
-      ∙ ap (λ (o : Option Bucket). cond (nat_eq w at && may_leave old version w) None o) (before.residents w)
-      ∙ two_steps (list_any (nat_eq w) (take i nodes)) (nat_eq w at) (may_leave old version w) (resident_at old w)
-      ∙ sym (ap (λ (b : Bool). cond (b && may_leave old version w) None (resident_at old w)) split);
-  others = one.others ∙ ap (λ (st : SubtreeState). record st { residents = new.residents; spare = new.spare }) before.others;
-}
 
 -- the test of a node whose touch and count were read
 pub may_leave_read : (s : Shape) (m : SlotMap) (cs ts vs : List ℕ) (state : SubtreeState) (version node a b t n : ℕ) → state_of s m cs ts vs ≡ state

@@ -1,4 +1,4 @@
--- What holds of the parts of the subtree.
+-- How the parts of the subtree fit together.
 use Rattle.std.specs.Prelude.{◌≡◌, ℕ, ◌+◌, ◌^◌, List, length}
 use Rattle.tao_base.specs.Limits.{Shape, IsShape}
 use Rattle.tao_slots.specs.SlotMap.{SlotMap}
@@ -13,7 +13,7 @@ pub record AreInStep (s : Shape) (slots : SlotMap) (counts touches versions : Li
   pub touches_len : length touches ≡ 2 ^ (s.l + 1)
   pub versions_len : length versions ≡ 2 ^ (s.l + 1)
 
--- the state that these parts are
+-- the state that these parts make up
 abbrev pub state_of : Shape → SlotMap → List ℕ → List ℕ → List ℕ → SubtreeState
 state_of s slots counts touches versions =
     record { shape = s; residents = slots.buckets; counts = counts; touches = touches; versions = versions; spare = slots.spare }

@@ -6,8 +6,8 @@ use Rattle.tao_base.specs.Tree.{is_on_path}
 use Rattle.tao_base.specs.declared.storage.Bucket.{Bucket}
 use Rattle.tao_base.specs.declared.storage.Entry.{Entry}
 
--- by the number of each node: its bucket where it is resident, how many fetches that cover it are under way, its touch, and its last
--- version; and for how many more residents there is room
+-- for each node its bucket if it is resident, how many fetches under way cover it, its touch and its latest version; and the capacity for
+-- more residents
 pub record SubtreeState : Type 0 where
   pub shape : Shape
   pub residents : List (Option Bucket)
@@ -16,7 +16,7 @@ pub record SubtreeState : Type 0 where
   pub versions : List ℕ
   pub spare : ℕ
 
--- the bucket of a node, where it is resident
+-- the bucket of a node, if it is resident
 abbrev pub resident_at : SubtreeState → ℕ → Option Bucket
 resident_at state node = slice_index_or state.residents node None
 
@@ -24,7 +24,7 @@ resident_at state node = slice_index_or state.residents node None
 abbrev pub count_at : SubtreeState → ℕ → ℕ
 count_at state node = slice_index state.counts node
 
--- the number of the last fetch that has ended on a path with this node, from 1 on, or 0
+-- the number of the last ended fetch whose path has this node, counted from 1, or 0
 abbrev pub touch_at : SubtreeState → ℕ → ℕ
 touch_at state node = slice_index state.touches node
 
@@ -47,15 +47,15 @@ empty_subtree shape = record {
   spare = 0;
 }
 
--- the bucket's node is resident with it
+-- this bucket is admitted
 abbrev pub taken_in : SubtreeState → Bucket → SubtreeState
 taken_in state bucket = record state { residents = slice_set state.residents bucket.node (Some bucket); spare = state.spare - 1 }
 
--- the bucket of a resident has other entries
+-- a resident's bucket has other entries
 abbrev pub with_entries : SubtreeState → ℕ → Bucket → List Entry → SubtreeState
 with_entries state node bucket entries = record state { residents = slice_set state.residents node (Some (record bucket { entries = entries })) }
 
--- fewer fetches are under way than a count can tell
+-- so few fetches are under way that no count overflows
 abbrev pub AreFew : List ℕ → Type 0
 AreFew counts = (node : ℕ) → slice_index counts node < 65536
 
@@ -88,7 +88,7 @@ pub record Forgets (old new : SubtreeState) (version : ℕ) (nodes : List ℕ) :
   pub residents : (node : ℕ) → resident_at new node ≡ cond (list_any (nat_eq node) nodes && may_leave old version node) None (resident_at old node)
   pub others : new ≡ record old { residents = new.residents; spare = new.spare }
 
--- the number of residents and the spare together are as before
+-- residents and spare together stay as many
 abbrev pub KeepsRoom : SubtreeState → SubtreeState → Type 0
 KeepsRoom old new = resident_count new + new.spare ≡ resident_count old + old.spare
 

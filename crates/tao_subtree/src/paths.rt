@@ -1,11 +1,11 @@
-//! Numbers of the nodes of a path, changed all at once.
+//! Changes a number of each node of a path.
 ghost use Rattle.std.specs.Prelude.{◌≡◌, ◌+◌, ◌^◌, ◌<◌, ◌≤◌, ℕ, true, cond, length, slice_index};
 ghost use Rattle.tao_base.specs.Tree.{is_on_path};
 ghost use Rattle.tao_subtree.specs.Residents.{AreFew, on_path_count};
 
 use tao_base::{Params, path_node};
 
-/// Raises the number of each node of the path to a leaf by 1.
+/// Adds 1 to the number of each node of the path to a leaf.
 pub(crate) fn raise(counts: &mut [u32], p: &Params, leaf: u32)
     requires leaf { leaf < 2 ^ p.now.l }
     requires len { length counts.old ≡ 2 ^ (p.now.l + 1) }
@@ -18,7 +18,7 @@ pub(crate) fn raise(counts: &mut [u32], p: &Params, leaf: u32)
     }
 }
 
-/// Lowers the number of each node of the path to a leaf by 1.
+/// Subtracts 1 from the number of each node of the path to a leaf.
 pub(crate) fn lower(counts: &mut [u32], p: &Params, leaf: u32)
     requires leaf { leaf < 2 ^ p.now.l }
     requires len { length counts.old ≡ 2 ^ (p.now.l + 1) }
@@ -31,7 +31,7 @@ pub(crate) fn lower(counts: &mut [u32], p: &Params, leaf: u32)
     }
 }
 
-/// Makes the number of each node of the path to a leaf this one.
+/// Sets the number of each node of the path to a leaf to `t`.
 pub(crate) fn mark(touches: &mut [u64], p: &Params, leaf: u32, t: u64)
     requires leaf { leaf < 2 ^ p.now.l }
     requires len { length touches.old ≡ 2 ^ (p.now.l + 1) }

@@ -1,4 +1,4 @@
-//! The residents.
+//! The resident nodes.
 ghost use Rattle.std.specs.Prelude.{◌≡◌, ◌+◌, ◌^◌, ◌<◌, ◌≤◌, ℕ, None, max, IfOk, OnOk, OnErr, IsSome, IsSomeAnd, is_some, is_none, slice_set, if◌then◌else◌};
 ghost use Rattle.std.specs.Option.{option_map, option_copied};
 ghost use Rattle.tao_base.specs.Tree.{node_count};
@@ -9,12 +9,12 @@ use std::marker::Model;
 use tao_base::{Bucket, Entries, NoMemory, Params};
 use tao_slots::Slots;
 
-/// The resident nodes with their buckets. The numbers of a node survive when it leaves and when it is taken in again.
+/// The resident nodes with their buckets. A node keeps its numbers when it leaves and is admitted again.
 #[derive(Debug, Drop)]
 pub struct Subtree {
     p: Params,
     slots: Slots,
-    // by the number of each node, with a place for 0 that no node has
+    // indexed by node; index 0 isn't used
     counts: Vec<u32>,
     touches: Vec<u64>,
     versions: Vec<u32>,
@@ -35,7 +35,7 @@ impl Model for Subtree {
 impl Subtree {
     ghost use Rattle.tao_subtree.specs.Residents.{resident_at, version_at, AreFew, resident_count, empty_subtree, taken_in, with_entries, BeginsFetch, EndsFetch, CanEndFetch, Forgets, ForgetsOne, KeepsRoom, HasPlaces};
 
-    /// No node is resident, and there is no room for one as yet.
+    /// No node is resident, and there is no capacity for one yet.
     pub fn new(alloc: Global, p: &Params) -> Result<Subtree, NoMemory>
         ensures { IfOk result (λ subtree. subtree ≡ empty_subtree p.now) }
     {
@@ -49,7 +49,7 @@ impl Subtree {
         })
     }
 
-    /// Makes the spare at least `n`.
+    /// Preallocates for at least `n` more residents.
     pub fn reserve(&mut self, n: usize) -> Result<(), NoMemory>
         ensures ok { OnOk result (self.new ≡ record self.old { spare = max self.old.spare n }) }
         ensures err { OnErr result (self.new ≡ self.old) }
@@ -57,7 +57,7 @@ impl Subtree {
         self.slots.reserve(n)
     }
 
-    /// A fetch of the path to a leaf has begun.
+    /// Begins a fetch of the path to a leaf.
     pub fn begin_fetch(&mut self, leaf: u32)
         requires leaf { leaf < 2 ^ self.old.shape.l }
         requires few { AreFew self.old.counts }
@@ -66,7 +66,7 @@ impl Subtree {
         raise(&mut self.counts, &self.p, leaf);
     }
 
-    /// Makes the bucket's node resident, unless it is. False where it was: then nothing changes.
+    /// Admits a fetched bucket: its node becomes resident. False if it is already; then nothing changes.
     pub fn take_in(&mut self, bucket: Bucket) -> bool
         requires low { 1 ≤ bucket.node }
         requires high { bucket.node ≤ node_count self.old.shape.l }
@@ -82,7 +82,7 @@ impl Subtree {
         true
     }
 
-    /// A fetch of the path to a leaf has ended, as the one of number `t` counted from 1.
+    /// Ends a fetch of the path to a leaf, the `t`-th that ends, counted from 1.
     pub fn end_fetch(&mut self, leaf: u32, t: u64)
         requires leaf { leaf < 2 ^ self.old.shape.l }
         requires path { CanEndFetch self.old leaf }
@@ -92,7 +92,7 @@ impl Subtree {
         mark(&mut self.touches, &self.p, leaf, t);
     }
 
-    /// A write-back of a resident node was issued with this version.
+    /// Records that a write-back of a resident node was issued with this version.
     pub fn set_version(&mut self, node: u32, version: u32)
         requires resident { IsSome (resident_at self.old node) }
         requires newer { version_at self.old node < version }
@@ -101,7 +101,7 @@ impl Subtree {
         self.versions[node as usize] = version;
     }
 
-    /// A write-back of these nodes with this version was acknowledged. Those that weren't touched since and that no fetch covers leave.
+    /// The write-back of this version was acknowledged: of its nodes, those leave that weren't touched since and that no fetch covers.
     pub fn forget(&mut self, version: u32, nodes: &[u32])
         ensures state { Forgets self.old self.new version nodes.now }
         ensures kept { KeepsRoom self.old self.new }
@@ -111,7 +111,7 @@ impl Subtree {
         }
     }
 
-    // The same of one node.
+    // The same for one node.
     fn forget_one(&mut self, version: u32, node: u32)
         ensures state { ForgetsOne self.old self.new version node }
         ensures kept { KeepsRoom self.old self.new }
@@ -124,7 +124,7 @@ impl Subtree {
         }
     }
 
-    /// Whether a node is resident. A number that no node of the tree has isn't.
+    /// Whether a node is resident; false for a number that isn't in the tree.
     pub fn is_resident(&self, node: u32) -> bool
         ensures value { result ≡ is_some (resident_at self.now node) }
         ensures places { HasPlaces self.now }
@@ -132,7 +132,7 @@ impl Subtree {
         self.slots.find(node).is_some()
     }
 
-    /// The version of the last write-back of a node that was issued, or 0.
+    /// The version of the last issued write-back of a node, or 0.
     pub fn last_version(&self, node: u32) -> u32
         ensures { result ≡ version_at self.now node }
     {
@@ -143,7 +143,7 @@ impl Subtree {
         }
     }
 
-    /// The entries of a resident node. None exactly where it isn't resident.
+    /// The entries of a node. None exactly if it isn't resident.
     pub fn entries(&self, node: u32) -> Option<&Entries>
         ensures { option_copied result ≡ option_map (λ bucket. bucket.entries) (resident_at self.now node) }
     {

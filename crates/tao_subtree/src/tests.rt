@@ -20,7 +20,7 @@ fn bucket_at(alloc: Global, node: u32) -> Result<Bucket, NoMemory>
     })
 }
 
-// A fetch of the left leaf has begun, and there is room for two nodes.
+// A fetch of the left leaf has begun, and there is capacity for two nodes.
 fn begun(alloc: Global) -> Result<Subtree, Fail>
     ensures shape { IfOk result (λ subtree. subtree.shape.l ≡ 1) }
     ensures spare { IfOk result (λ subtree. subtree.spare ≡ 2) }
@@ -101,7 +101,7 @@ fn kept_while_counted(rt: HostRuntime) -> Result<(), Fail> {
     Ok(())
 }
 
-// a node that comes again is taken in, and one that is there stays as it is
+// a node that comes again is admitted, and one that is resident stays as it is
 #[test]
 fn taken_in_again(rt: HostRuntime) -> Result<(), Fail> {
     let alloc = rt.alloc();
