@@ -1,4 +1,4 @@
--- How far the counts of a lawful record can go. The events `es` are newest first.
+-- Bounds on the counts of a lawful record. The events `es` are newest first.
 use Rattle.std.proofs.Common.{◌≡◌, ℕ, suc, ◌+◌, ◌-◌, ◌*◌, ◌<◌, ◌≤◌, Bool, true, false, ◌||◌, cond, List, [], ◌∷◌, reverse, refl, sym, ap, ◌∙◌, arith, inl, inr, ◌⊎◌, nat_eq}
 use Rattle.std.proofs.lemmas.Bool.{cases_lt, cases_eq, eq-eqb, ne_eqb, eqb-true, or_cases, true≢false, false_from_ne_true}
 use Rattle.std.proofs.lemmas.Nat.{mul-le}

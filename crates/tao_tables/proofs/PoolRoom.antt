@@ -7,7 +7,7 @@ use Rattle.tao_model.proofs.LawfulToWhole.{follows_opening}
 use Rattle.tao_tables.proofs.CountedWork.{work_from, acks_from}
 use Rattle.tao_tables.specs.Pools.{one_if, due, AreCounts, CountsAreKnown, RoomGrows, RoomAtStart, RoomReserve, RoomArrive, RoomDone, RoomIssue, RoomAcked}
 
--- so many full periods are due
+-- at least as many write-backs are due as periods are full
 full_due : (s : Shape) (m n : ℕ) → 1 ≤ s.k → m * s.k ≤ n → m ≤ due s n
 full_due s m n some full = either (cases_lt (due s n) m) (div_ceil_times n s.k some)
   where
@@ -20,19 +20,6 @@ full_due s m n some full = either (cases_lt (due s n) m) (div_ceil_times n s.k s
         apart : (d m k n : ℕ) → 1 ≤ k → (d + 1) * k ≤ m * k → m * k ≤ n → n ≤ d * k → ⊥
         apart d m k n some up full high = omega arith
     either (inr le) bounds = le
-
--- more arrivals come to no fewer write-backs
-due_grows : (s : Shape) (n n' : ℕ) → 1 ≤ s.k → n ≤ n' → due s n ≤ due s n'
-due_grows s n n' some le = either (cases_lt (due s n') (due s n)) (div_ceil_times n s.k some) (div_ceil_times n' s.k some)
-  where
-    either : (due s n' < due s n) ⊎ (due s n ≤ due s n') → (n ≤ due s n * s.k) × (due s n * s.k < n + s.k) → (n' ≤ due s n' * s.k) × (due s n' * s.k < n' + s.k) → due s n ≤ due s n'
-    either (inl less) low high =
-        let up : (due s n' + 1) * s.k ≤ due s n * s.k = mul-le-mul_right s.k (omega arith) in
-        absurd (apart (due s n) (due s n') s.k n n' up low.1 high.0 le)
-      where
-        apart : (d d' k n n' : ℕ) → (d' + 1) * k ≤ d * k → d * k < n + k → n' ≤ d' * k → n ≤ n' → ⊥
-        apart d d' k n n' up low high le = omega arith
-    either (inr le') low high = le'
 
 pub room_grows : RoomGrows
 room_grows s ready arrivals done issued acked old new keeps has =

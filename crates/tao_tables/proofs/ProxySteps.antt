@@ -1,10 +1,6 @@
--- A record that a proxy makes stays one, and owes a write-back where a period is full. The events `es` are newest first.
-use Rattle.std.proofs.Common.{◌≡◌, ℕ, ◌+◌, ◌*◌, ◌<◌, ◌≤◌, List, [], ◌∷◌, ◌++◌, reverse, All, IfSome, sym, ap, ◌∙◌, subst, arith}
-use Rattle.tao_base.specs.declared.session.Event.{Event}
+-- A record that a proxy makes stays one, and owes a write-back if a period is full. The events `es` are newest first.
+use Rattle.std.proofs.Common.{◌≡◌, ℕ, ◌+◌, ◌*◌, ◌<◌, ◌≤◌, ◌∷◌, reverse, sym, ap, ◌∙◌, subst, arith}
 use Rattle.tao_base.specs.declared.session.Event.TheVariants.{Arrive, Done, Issue, Acked, Fault}
-use Rattle.tao_base.specs.declared.storage.Bucket.{Bucket}
-use Rattle.tao_base.specs.Session.{Opening}
-use Rattle.tao_model.specs.Residence.{newest_write, Unaltered}
 use Rattle.tao_model.specs.Events.{dones, issues}
 use Rattle.tao_model.specs.Lawful.{FollowsLawfully}
 use Rattle.tao_model.proofs.LawfulToWhole.{follows_opening}
@@ -20,15 +16,6 @@ proxy_goes_on o events is = record {
   acked = λ version. rw (newest_first events (Acked version)) (λ f. record { opens = is.opens; follows = f; writes = is.writes });
   fault = λ cause. rw (newest_first events (Fault cause)) (λ f. record { opens = is.opens; follows = f; writes = is.writes });
 }
-
--- Unaltered buckets in any sense, under one more event: a Done's buckets have to be unaltered. A lemma alone, since a sense lies in Type 1.
-pub unaltered_done : (R : Bucket → Bucket → Type 0) (o : Opening) (events : List Event) (i : ℕ) (taken : List Bucket) → Unaltered R o (reverse events)
-    → All (λ bucket. IfSome (newest_write o (reverse events) bucket.node) (R bucket)) taken → Unaltered R o (reverse (events ++ Done i taken ∷ []))
-unaltered_done R o events i taken before all = subst (Unaltered R o) (sym (newest_first events (Done i taken))) (before, all)
-
-pub unaltered_issue : (R : Bucket → Bucket → Type 0) (o : Opening) (events : List Event) (version nonce : ℕ) (buckets : List Bucket) → Unaltered R o (reverse events)
-    → Unaltered R o (reverse (events ++ Issue version nonce buckets ∷ []))
-unaltered_issue R o events version nonce buckets before = subst (Unaltered R o) (sym (newest_first events (Issue version nonce buckets))) before
 
 pub follows_on : FollowsOn
 follows_on o events e f no_fault may = subst (FollowsLawfully o) (sym (newest_first events e)) (f, no_fault, may)

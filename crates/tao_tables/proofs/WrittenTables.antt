@@ -78,7 +78,7 @@ issued_is o events p version nonce buckets w f here =
     ∙ issued_at o (reverse (drop (p + 1) events)) (before events p) version nonce buckets w (subst (FollowsLawfully o) split f)
     ∙ bucket_in w buckets
 
--- ---- the newest write
+-- ---- the latest version
 
 record IsOne (node version : ℕ) (P : Bucket → Type 0) (x : Bucket) : Type 0 where
   node_is : x.node ≡ node

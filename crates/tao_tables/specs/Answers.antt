@@ -18,7 +18,7 @@ use Rattle.tao_held.specs.Held.{held, found_in, block_on, value_since, served_an
 abbrev pub AreServed : Opening → List Event → List Request → Type 0
 AreServed o es requests = (j : ℕ) → j < arrived es → is_settled es j ≡ true → (request_at requests j).answer ≡ Some (served_answer o es j)
 
--- what settling a real arrival with what was found makes of its block
+-- how settling a real arrival with the value that was found changes its block
 pub record SettlesRight (o : Opening) (es now : List Event) (i : ℕ) (x : List ℕ) (requests : List Request) : Type 0 where
   pub served : AreServed o now (settled_from i (block_of requests i) x requests)
   pub left : value_from i (block_of requests i) x requests ≡ value_since es (block_on es i) i x

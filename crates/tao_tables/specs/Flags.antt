@@ -20,12 +20,12 @@ pub record TellsFlags (o : Opening) (es : List Event) (done acked : List Bool) :
   pub dones : (i : ℕ) → is_done_in done i ≡ is_done es i
   pub acks : (u : ℕ) → is_done_in acked u ≡ is_acked es (u + 1)
 
--- a flag that is there and is not up
+-- the index of a flag that isn't set
 pub record IsFree (flags : List Bool) (u : ℕ) : Type 0 where
   pub within : u < length flags
   pub down : is_done_in flags u ≡ false
 
--- What one more event makes of them: a Done and an acknowledgement raise one flag each, which was free.
+-- How one more event changes them: a Done and an acknowledgement set one flag each, which wasn't set.
 pub record FlagsMove (o : Opening) (events : List Event) (flags marks : List Bool) : Type 0 where
   pub done_free : (i : ℕ) (taken : List Bucket) → FollowsLawfully o (with_one_more events (Done i taken)) → IsFree flags i
   pub acked_free : (version : ℕ) → FollowsLawfully o (with_one_more events (Acked version)) → IsFree marks (version - 1)
@@ -37,26 +37,26 @@ pub record FlagsMove (o : Opening) (events : List Event) (flags marks : List Boo
       → TellsFlags o (with_one_more events (Acked version)) flags (slice_set marks (version - 1) true)
   pub fault : (cause : Cause) → TellsFlags o (with_one_more events (Fault cause)) flags marks
 
--- so it is for all flags that tell a record
+-- this holds for all flags that tell a record
 abbrev pub FlagsAreTold : Type 0
 FlagsAreTold = (o : Opening) (events : List Event) (flags marks : List Bool) → TellsFlags o (reverse events) flags marks → FlagsMove o events flags marks
 
--- at the start no flag is up
+-- at the start no flag is set
 abbrev pub FlagsAtStart : Type 0
 FlagsAtStart = (o : Opening) → TellsFlags o [] (replicate (session_limit o.shape) false) (replicate (session_limit o.shape) false)
 
--- What the flags say is released is what the record has released.
+-- As many arrivals are released by the flags as by the record.
 abbrev pub ReleasedByFlags : Type 0
 ReleasedByFlags = (o : Opening) (events : List Event) (done acked : List Bool) (r : ℕ) → FollowsLawfully o (reverse events) → TellsFlags o (reverse events) done acked
     → IsReleased done r → r ≡ released (reverse events)
 
--- All versions up to r are acknowledged, and the next one isn't: where it was issued, it is the first that is outstanding.
+-- All versions up to r are acknowledged, and the next one isn't: if it was issued, it is the first outstanding one.
 pub record AckedUpTo (es : List Event) (r : ℕ) : Type 0 where
   pub within : r ≤ issues es
   pub below : (v : ℕ) → 0 < v → v ≤ r → is_acked es v ≡ true
   pub stops : is_acked es (r + 1) ≡ false
 
--- so the flags say of the versions
+-- this is what the flags say of the versions
 abbrev pub AckedByFlags : Type 0
 AckedByFlags = (o : Opening) (events : List Event) (done acked : List Bool) (r : ℕ) → FollowsLawfully o (reverse events) → TellsFlags o (reverse events) done acked
     → IsReleased acked r → AckedUpTo (reverse events) r

@@ -1,5 +1,5 @@
--- The pools that a proxy fills before an arrival, so that nothing after it takes memory. Everything here is about plain numbers: so many
--- arrivals, Dones, write-backs and acknowledgements, and whether there is room for one more arrival.
+-- The pools that a proxy fills before an arrival, so that nothing after it takes memory. All of it is about plain numbers: how many
+-- arrivals, Dones, write-backs and acknowledgements there are, and whether one more arrival is preallocated.
 use Rattle.std.specs.Prelude.{◌≡◌, ℕ, ◌+◌, ◌-◌, ◌*◌, ◌<◌, ◌≤◌, Bool, true, false, if◌then◌else◌, List, reverse}
 use Rattle.std.specs.Int.{div_ceil}
 use Rattle.tao_base.specs.declared.session.Event.{Event}
@@ -8,7 +8,7 @@ use Rattle.tao_base.specs.Session.{Opening}
 use Rattle.tao_model.specs.Events.{arrived, dones, issues, acks}
 use Rattle.tao_model.specs.Lawful.{FollowsLawfully}
 
--- How much is in each pool: what the record has room for, images and buckets and values that are made, and the room in lists.
+-- How much is in each pool: the record's capacity, preallocated images, buckets and values, and the capacity of lists.
 pub record Pools : Type 0 where
   pub dones : ℕ
   pub issues : ℕ
@@ -20,15 +20,15 @@ pub record Pools : Type 0 where
   pub rows : ℕ
   pub places : ℕ
 
--- 1 where there is room for one more arrival
+-- 1 if one more arrival is preallocated
 abbrev pub one_if : Bool → ℕ
 one_if ready = if ready then 1 else 0
 
--- the write-backs that so many arrivals come to, the last of them perhaps not full
+-- the number of write-backs of so many arrivals, the last period perhaps not full
 abbrev pub due : Shape → ℕ → ℕ
 due s count = div_ceil count s.k
 
--- Each pool has enough for the arrivals so far, and for one more where there is room for one.
+-- Each pool has enough for the arrivals so far, and for one more if that is preallocated.
 pub record HasPools (s : Shape) (ready : Bool) (arrivals done issued acked : ℕ) (pools : Pools) : Type 0 where
   pub for_dones : arrivals - done + one_if ready ≤ pools.dones
   pub for_issues : due s (arrivals + one_if ready) ≤ pools.issues + issued
@@ -47,7 +47,7 @@ pub record AreCounts (s : Shape) (arrivals done issued acked : ℕ) : Type 0 whe
   pub paced : issued * s.k ≤ done
   pub answered : acked ≤ issued
 
--- so it is in each record that follows lawfully
+-- this holds in each lawful record
 abbrev pub CountsAreKnown : Type 0
 CountsAreKnown = (o : Opening) (events : List Event) → FollowsLawfully o (reverse events)
     → AreCounts o.shape (arrived (reverse events)) (dones (reverse events)) (issues (reverse events)) (acks (reverse events))
@@ -69,7 +69,7 @@ abbrev pub RoomGrows : Type 0
 RoomGrows = (s : Shape) (ready : Bool) (arrivals done issued acked : ℕ) (old new : Pools) → KeepsPools old new → HasPools s ready arrivals done issued acked old
     → HasPools s ready arrivals done issued acked new
 
--- at the start nothing is wanted
+-- at the start nothing is needed
 abbrev pub RoomAtStart : Type 0
 RoomAtStart = (s : Shape) (pools : Pools) → 1 ≤ s.k → HasPools s false 0 0 0 0 pools
 
@@ -87,7 +87,7 @@ wanted s arrivals done issued acked = record {
   places = due s (arrivals + 1);
 }
 
--- then there is room for one
+-- one more arrival is then preallocated
 abbrev pub RoomReserve : Type 0
 RoomReserve = (s : Shape) (arrivals done issued acked : ℕ) (pools : Pools) → KeepsPools (wanted s arrivals done issued acked) pools
     → HasPools s true arrivals done issued acked pools
@@ -99,12 +99,12 @@ pub record ArrivesInRoom (s : Shape) (arrivals done issued acked : ℕ) (pools :
   pub rows : arrivals < pools.rows
   pub left : HasPools s false (arrivals + 1) done issued acked (record pools { others = pools.others - 1; requests = pools.requests - 1 })
 
--- so it is where there is room for one
+-- this holds if it is preallocated
 abbrev pub RoomArrive : Type 0
 RoomArrive = (s : Shape) (arrivals done issued acked : ℕ) (pools : Pools) → AreCounts s arrivals done issued acked → HasPools s true arrivals done issued acked pools
     → ArrivesInRoom s arrivals done issued acked pools
 
--- a Done finds what it takes, so many buckets and a value where it is real, and leaves enough
+-- a Done finds what it takes, which is its buckets and a value if it is real, and leaves enough
 pub record DoneInRoom (s : Shape) (ready : Bool) (arrivals done issued acked : ℕ) (pools : Pools) : Type 0 where
   pub dones : 0 < pools.dones
   pub stock : s.l + 1 ≤ pools.stock
@@ -112,7 +112,7 @@ pub record DoneInRoom (s : Shape) (ready : Bool) (arrivals done issued acked : �
   pub left : (taken used : ℕ) → taken ≤ s.l + 1 → used ≤ 1
       → HasPools s ready arrivals (done + 1) issued acked (record pools { dones = pools.dones - 1; stock = pools.stock - taken; values = pools.values - used })
 
--- so it is while an arrival is under way
+-- this holds while an arrival is under way
 abbrev pub RoomDone : Type 0
 RoomDone = (s : Shape) (ready : Bool) (arrivals done issued acked : ℕ) (pools : Pools) → AreCounts s arrivals done issued acked → done < arrivals → HasPools s ready arrivals done issued acked pools
     → DoneInRoom s ready arrivals done issued acked pools
@@ -124,7 +124,7 @@ pub record IssuesInRoom (s : Shape) (ready : Bool) (arrivals done issued acked :
   pub places : issued < pools.places
   pub left : HasPools s ready arrivals done (issued + 1) acked (record pools { issues = pools.issues - 1; orders = pools.orders - 1 })
 
--- so it is where one is due
+-- this holds if one is due
 abbrev pub RoomIssue : Type 0
 RoomIssue = (s : Shape) (ready : Bool) (arrivals done issued acked : ℕ) (pools : Pools) → AreCounts s arrivals done issued acked → done ≡ (issued + 1) * s.k
     → HasPools s ready arrivals done issued acked pools → IssuesInRoom s ready arrivals done issued acked pools
@@ -134,7 +134,7 @@ pub record AckedInRoom (s : Shape) (ready : Bool) (arrivals done issued acked : 
   pub others : 0 < pools.others
   pub left : HasPools s ready arrivals done issued (acked + 1) (record pools { others = pools.others - 1 })
 
--- so it is while a write-back is outstanding
+-- this holds while a write-back is outstanding
 abbrev pub RoomAcked : Type 0
 RoomAcked = (s : Shape) (ready : Bool) (arrivals done issued acked : ℕ) (pools : Pools) → AreCounts s arrivals done issued acked → acked < issued
     → HasPools s ready arrivals done issued acked pools → AckedInRoom s ready arrivals done issued acked pools

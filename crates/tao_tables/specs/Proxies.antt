@@ -11,7 +11,7 @@ use Rattle.tao_model.specs.Lawful.{MayFollow, OwesNone, FollowsLawfully}
 use Rattle.tao_model.specs.OneMore.{with_one_more}
 use Rattle.tao_held.specs.Held.{held, IsOfProxy}
 
--- Each event has to come lawfully, and a write-back to have what is held.
+-- Each event has to be lawful, and a write-back has to have what is held.
 pub record ProxyMoves (o : Opening) (events : List Event) : Type 0 where
   pub arrive : (client : ℕ) (op : Op) (word : ℕ) → FollowsLawfully o (with_one_more events (Arrive client op word)) → IsOfProxy o (with_one_more events (Arrive client op word))
   pub done : (i : ℕ) (taken : List Bucket) → FollowsLawfully o (with_one_more events (Done i taken)) → IsOfProxy o (with_one_more events (Done i taken))
@@ -20,11 +20,11 @@ pub record ProxyMoves (o : Opening) (events : List Event) : Type 0 where
   pub acked : (version : ℕ) → FollowsLawfully o (with_one_more events (Acked version)) → IsOfProxy o (with_one_more events (Acked version))
   pub fault : (cause : Cause) → FollowsLawfully o (with_one_more events (Fault cause)) → IsOfProxy o (with_one_more events (Fault cause))
 
--- so it is for each such record
+-- this holds for each such record
 abbrev pub ProxyGoesOn : Type 0
 ProxyGoesOn = (o : Opening) (events : List Event) → IsOfProxy o (reverse events) → ProxyMoves o events
 
--- A record that follows lawfully goes on so with an event that may follow.
+-- A lawful record stays lawful with an event that may follow.
 abbrev pub FollowsOn : Type 0
 FollowsOn = (o : Opening) (events : List Event) (e : Event) → FollowsLawfully o (reverse events) → has_fault (reverse events) ≡ false → MayFollow o (reverse events) e
     → FollowsLawfully o (with_one_more events e)
@@ -39,6 +39,6 @@ pub record OwesMove (o : Opening) (events : List Event) : Type 0 where
   pub acked : (version : ℕ) → FollowsLawfully o (with_one_more events (Acked version)) → OwesNone o (with_one_more events (Acked version))
   pub fault : (cause : Cause) → FollowsLawfully o (with_one_more events (Fault cause)) → OwesNone o (with_one_more events (Fault cause))
 
--- so it is for every record
+-- this holds for every record
 abbrev pub OwesInTurn : Type 0
 OwesInTurn = (o : Opening) (events : List Event) → OwesMove o events

@@ -12,7 +12,7 @@ use Rattle.tao_model.specs.Requests.{real_now, fetched_leaf, position}
 use Rattle.tao_model.specs.Lawful.{FollowsLawfully}
 use Rattle.tao_model.specs.OneMore.{with_one_more}
 
--- so many rows, each with the leaf that its arrival fetches and the word that came with it
+-- as many rows as arrivals, each with the leaf that its arrival fetches and the word that came with it
 pub record TellsRows (o : Opening) (es : List Event) (count : ℕ) (leaf word : ℕ → ℕ) : Type 0 where
   pub counts : count ≡ arrived es
   pub leaves : (i : ℕ) → i < count → leaf i ≡ fetched_leaf o es i
@@ -25,7 +25,7 @@ pub record AddsRow (count : ℕ) (leaf word leaf' word' : ℕ → ℕ) (at own :
   pub leaf_new : leaf' count ≡ at
   pub word_new : word' count ≡ own
 
--- What one more event makes of them: an arrival adds its row.
+-- How one more event changes them: an arrival adds its row.
 pub record RowsMove (o : Opening) (events : List Event) (count : ℕ) (leaf word : ℕ → ℕ) : Type 0 where
   pub arrive : (client : ℕ) (op : Op) (own : ℕ) (leaf' word' : ℕ → ℕ) → FollowsLawfully o (with_one_more events (Arrive client op own))
       → AddsRow count leaf word leaf' word' (fetched_leaf o (with_one_more events (Arrive client op own)) count) own
@@ -35,7 +35,7 @@ pub record RowsMove (o : Opening) (events : List Event) (count : ℕ) (leaf word
   pub acked : (version : ℕ) → TellsRows o (with_one_more events (Acked version)) count leaf word
   pub fault : (cause : Cause) → TellsRows o (with_one_more events (Fault cause)) count leaf word
 
--- so it is for all rows that tell a record
+-- this holds for all rows that tell a record
 abbrev pub RowsAreTold : Type 0
 RowsAreTold = (o : Opening) (events : List Event) (count : ℕ) (leaf word : ℕ → ℕ) → TellsRows o (reverse events) count leaf word → RowsMove o events count leaf word
 
@@ -43,12 +43,12 @@ RowsAreTold = (o : Opening) (events : List Event) (count : ℕ) (leaf word : ℕ
 abbrev pub RowsAtStart : Type 0
 RowsAtStart = (o : Opening) (leaf word : ℕ → ℕ) → TellsRows o [] 0 leaf word
 
--- The leaf of a new arrival: that of its block's position where it is real, and else that of its own word.
+-- The leaf of a new arrival: that of its block's position if it is real, else that of its own word.
 pub record ArrivalLeaf (o : Opening) (es now : List Event) (op : Op) (word : ℕ) : Type 0 where
   pub real : (b : ℕ) → names b op ≡ true → real_now es op ≡ true → fetched_leaf o now (arrived es) ≡ position o es b
   pub fake : real_now es op ≡ false → fetched_leaf o now (arrived es) ≡ leaf_of o.shape.l word
 
--- so it is of each arrival that comes lawfully
+-- this holds for each lawful arrival
 abbrev pub ArrivalFetches : Type 0
 ArrivalFetches = (o : Opening) (events : List Event) (client : ℕ) (op : Op) (word : ℕ) → FollowsLawfully o (with_one_more events (Arrive client op word))
     → ArrivalLeaf o (reverse events) (with_one_more events (Arrive client op word)) op word

@@ -16,7 +16,7 @@ use Rattle.tao_requests.specs.Laws.{Follows}
 use Rattle.tao_held.specs.Held.{served_answer}
 use Rattle.tao_tables.specs.Answers.{AreServed}
 
--- An arrival begins a request, a pad's with its answer; all other requests stay as they are.
+-- An arrival adds a request, a pad's with its answer; all other requests stay as they are.
 pub record ServedStays (o : Opening) (events : List Event) (requests : List Request) : Type 0 where
   pub arrive : (client : ℕ) (op : Op) (word : ℕ) → FollowsLawfully o (with_one_more events (Arrive client op word))
       → AreServed o (with_one_more events (Arrive client op word)) (requests ++ request_of op (kind_now requests op) ∷ [])
@@ -27,12 +27,12 @@ pub record ServedStays (o : Opening) (events : List Event) (requests : List Requ
   pub acked : (version : ℕ) → FollowsLawfully o (with_one_more events (Acked version)) → AreServed o (with_one_more events (Acked version)) requests
   pub fault : (cause : Cause) → FollowsLawfully o (with_one_more events (Fault cause)) → AreServed o (with_one_more events (Fault cause)) requests
 
--- so it is for all requests that follow a record and are served by it
+-- this holds for all requests that follow a record and are served by it
 abbrev pub ServedElse : Type 0
 ServedElse = (o : Opening) (events : List Event) (requests : List Request) → Follows events requests → AreServed o (reverse events) requests
     → ServedStays o events requests
 
--- at the start none is
+-- at the start there is nothing to serve
 abbrev pub ServedAtStart : Type 0
 ServedAtStart = (o : Opening) → AreServed o [] []
 

@@ -1,4 +1,4 @@
--- The tables that a proxy keeps, as functions of the record, and what one more event makes of them. A record's events are oldest first.
+-- The tables that a proxy keeps, as functions of the record, and how one more event changes them. A record's events are oldest first.
 use Rattle.std.specs.Prelude.{◌≡◌, ℕ, ◌+◌, ◌-◌, ◌*◌, ◌<◌, ◌≤◌, ◌==◌, nat_lt, Bool, true, false, not, ◌&&◌, ◌||◌, if◌then◌else◌, List, [], ◌∷◌, reverse, is_some}
 use Rattle.tao_base.specs.declared.calls.Op.{Op}
 use Rattle.tao_base.specs.declared.session.Cause.{Cause}
@@ -24,7 +24,7 @@ use Rattle.tao_held.specs.HeldLaws.{AreIdsBelow}
 abbrev pub cover_count : Opening → List Event → ℕ → ℕ
 cover_count o es w = count_below (λ i. not (is_done es i) && fetches o es i w) (arrived es)
 
--- The tables of a record: which nodes are held, what each has, how many fetches cover it, its last touch and its newest version.
+-- The tables of a record: which nodes are held, what each has, how many fetches cover it, its last touch and its latest version.
 pub record TellsNodes (o : Opening) (es : List Event) (r : ℕ → Bool) (c : ℕ → List Entry) (n t v : ℕ → ℕ) : Type 0 where
   pub residents : (w : ℕ) → r w ≡ is_resident o es w
   pub contents : (w : ℕ) → c w ≡ held o es w
@@ -39,7 +39,7 @@ TellsArrive = (o : Opening) (events : List Event) (client : ℕ) (op : Op) (word
     → ((w : ℕ) → n' w ≡ (if is_on_path o.shape.l (fetched_leaf o (with_one_more events (Arrive client op word)) (arrived (reverse events))) w then n w + 1 else n w))
     → TellsNodes o (with_one_more events (Arrive client op word)) r c n' t v
 
--- what a Done makes of the tables: the path is held, with what the fetch makes of its contents, covered once less, and touched
+-- how a Done changes the tables: its path is held, with its contents after the fetch, covered once less, and touched
 pub record MovesTables (o : Opening) (es : List Event) (i : ℕ) (taken : List Bucket) (leaf : ℕ → ℕ) (x : List ℕ) (r r' : ℕ → Bool) (c c' : ℕ → List Entry) (n n' t t' : ℕ → ℕ) : Type 0 where
   pub positions : (b : ℕ) → b < o.shape.n → leaf b ≡ position o (Done i taken ∷ es) b
   pub found : is_real es i ≡ true → x ≡ value_since es (block_on es i) i (value_or_zeros o.shape
@@ -49,7 +49,7 @@ pub record MovesTables (o : Opening) (es : List Event) (i : ℕ) (taken : List B
   pub counts : (w : ℕ) → n' w ≡ (if is_on_path o.shape.l (fetched_leaf o es i) w then n w - 1 else n w)
   pub touches : (w : ℕ) → t' w ≡ (if is_on_path o.shape.l (fetched_leaf o es i) w then dones es + 1 else t w)
 
--- so they are those of the record with the Done
+-- they are then the tables of the record with the Done
 abbrev pub TellsDone : Type 0
 TellsDone = (o : Opening) (events : List Event) (i : ℕ) (taken : List Bucket) (leaf : ℕ → ℕ) (x : List ℕ) (r r' : ℕ → Bool) (c c' : ℕ → List Entry) (n n' t t' v : ℕ → ℕ)
     → TellsNodes o (reverse events) r c n t v → FollowsLawfully o (with_one_more events (Done i taken)) → AreIdsBelow o.shape.n c
@@ -62,7 +62,7 @@ TellsIssue = (o : Opening) (events : List Event) (version nonce : ℕ) (buckets 
     → TellsNodes o (reverse events) r c n t v → ((w : ℕ) → v' w ≡ (if is_some (bucket_of w buckets) then version else v w))
     → TellsNodes o (with_one_more events (Issue version nonce buckets)) r c n t v'
 
--- an acknowledgement lets its nodes go that were not touched since and that no fetch covers
+-- an acknowledgement drops those of its nodes that were not touched since and that no fetch covers
 abbrev pub TellsAcked : Type 0
 TellsAcked = (o : Opening) (events : List Event) (version : ℕ) (issued : ℕ → Bool) (r r' : ℕ → Bool) (c c' : ℕ → List Entry) (n t v : ℕ → ℕ)
     → TellsNodes o (reverse events) r c n t v → ((w : ℕ) → issued w ≡ is_issued (reverse events) version w)
@@ -81,11 +81,11 @@ TellsStart = (o : Opening) (stash : List Entry) (r : ℕ → Bool) (c : ℕ → 
     → ((w : ℕ) → r w ≡ false) → ((w : ℕ) → c w ≡ (if w == 0 then stash else [])) → ((w : ℕ) → n w ≡ 0) → ((w : ℕ) → t w ≡ 0) → ((w : ℕ) → v w ≡ 0)
     → TellsNodes o [] r c n t v
 
--- how many fetches cover a node: no more than there are arrivals, and some where one under way has it on its path
+-- how many fetches cover a node: no more than there are arrivals, and at least one if one under way has it on its path
 pub record CoverBounds (o : Opening) (es : List Event) (w : ℕ) : Type 0 where
   pub few : cover_count o es w ≤ arrived es
   pub some : (i : ℕ) → i < arrived es → is_done es i ≡ false → fetches o es i w ≡ true → 0 < cover_count o es w
 
--- so it is in any record
+-- this holds in any record
 abbrev pub CoverIsBounded : Type 0
 CoverIsBounded = (o : Opening) (events : List Event) (w : ℕ) → CoverBounds o (reverse events) w

@@ -1,4 +1,4 @@
--- What a proxy keeps of its write-backs: the nodes of the coming one, the places of the issued ones, and how many of what there were.
+-- What a proxy keeps of its write-backs: the nodes of the next one, the places of the issued ones, and counts of events.
 -- A record's events are oldest first.
 use Rattle.std.specs.Prelude.{◌≡◌, ℕ, ◌+◌, ◌-◌, ◌*◌, ◌<◌, ◌≤◌, ◌==◌, ◌||◌, true, List, [], ◌∷◌, ◌++◌, map, length, reverse, slice_index, All}
 use Rattle.std.specs.List.{list_any, range_with_len}
@@ -24,8 +24,8 @@ pub record IsIssueAt (events : List Event) (place version : ℕ) : Type 0 where
   pub buckets : List Bucket
   pub there : IsAt events place (Issue version nonce buckets)
 
--- The nodes touched since the last write-back, rising; the place of each write-back; how many Dones, write-backs and acknowledgements there
--- were; and the next nonce.
+-- The nodes touched since the last write-back, rising; the place of each write-back; the counts of Dones, write-backs and
+-- acknowledgements; and the next nonce.
 pub record TellsWrites (o : Opening) (events : List Event) (recent places : List ℕ) (done issued acked nonce : ℕ) : Type 0 where
   pub touched : recent ≡ touched_after o (reverse events) (issues (reverse events) * o.shape.k)
   pub count : length places ≡ issues (reverse events)
@@ -40,7 +40,7 @@ pub record PutsPath (l leaf : ℕ) (recent recent' : List ℕ) : Type 0 where
   pub rises : IsStrictlyIncreasing recent'
   pub members : (w : ℕ) → list_any (λ v. v == w) recent' ≡ (list_any (λ v. v == w) recent || is_on_path l leaf w)
 
--- the same with the first so many nodes of a path, in depth
+-- the same with the nodes of a path above a depth
 pub record PutsTop (l leaf depth : ℕ) (recent recent' : List ℕ) : Type 0 where
   pub rises : IsStrictlyIncreasing recent'
   pub members : (w : ℕ) → list_any (λ v. v == w) recent' ≡ (list_any (λ v. v == w) recent || list_any (λ v. v == w) (map (node_at l leaf) (range_with_len 0 depth)))
@@ -50,7 +50,7 @@ pub record PutsOne (node : ℕ) (recent recent' : List ℕ) : Type 0 where
   pub rises : IsStrictlyIncreasing recent'
   pub members : (w : ℕ) → list_any (λ v. v == w) recent' ≡ (list_any (λ v. v == w) recent || (node == w))
 
--- What one more event makes of them: a Done puts its path's nodes in, a write-back starts the next list and is at the record's new place.
+-- How one more event changes them: a Done adds its path's nodes; a write-back starts the next list, and is at the record's new place.
 pub record WritesMove (o : Opening) (events : List Event) (recent places : List ℕ) (n m a nonce : ℕ) : Type 0 where
   pub arrive : (client : ℕ) (op : Op) (word : ℕ) → TellsWrites o (events ++ Arrive client op word ∷ []) recent places n m a nonce
   pub done : (i : ℕ) (taken : List Bucket) (recent' : List ℕ) → FollowsLawfully o (with_one_more events (Done i taken))
@@ -60,7 +60,7 @@ pub record WritesMove (o : Opening) (events : List Event) (recent places : List 
   pub acked : (version : ℕ) → TellsWrites o (events ++ Acked version ∷ []) recent places n m (a + 1) nonce
   pub fault : (cause : Cause) → TellsWrites o (events ++ Fault cause ∷ []) recent places n m a nonce
 
--- so it is for all that tells a record's writes
+-- this holds for all that tells a record's writes
 abbrev pub WritesAreTold : Type 0
 WritesAreTold = (o : Opening) (events : List Event) (recent places : List ℕ) (n m a nonce : ℕ) → TellsWrites o events recent places n m a nonce
     → WritesMove o events recent places n m a nonce
@@ -73,8 +73,8 @@ WritesAtStart = (o : Opening) → TellsWrites o [] [] [] 0 0 0 (node_count o.sha
 abbrev pub OneRisingList : Type 0
 OneRisingList = (xs ys : List ℕ) → IsStrictlyIncreasing xs → IsStrictlyIncreasing ys → ((w : ℕ) → list_any (λ v. v == w) xs ≡ list_any (λ v. v == w) ys) → xs ≡ ys
 
--- The nodes of the coming write-back rise, are nodes of the tree, and are held; no node has its version yet. They are few: each Done since the last one has brought one path
--- at most. While none is owed there is room for one path more.
+-- The nodes of the next write-back rise, are in the tree and held; no node has its version yet. Each Done since the last write-back has
+-- added at most one path, and while no write-back is owed there is room for one more.
 pub record IsRecentList (o : Opening) (es : List Event) (recent : List ℕ) : Type 0 where
   pub rises : IsStrictlyIncreasing recent
   pub in_tree : (w : ℕ) → list_any (λ v. v == w) recent ≡ true → (0 < w) × (w ≤ node_count o.shape.l)
@@ -85,19 +85,19 @@ pub record IsRecentList (o : Opening) (es : List Event) (recent : List ℕ) : Ty
   pub fits : length recent ≤ o.shape.k * (o.shape.l + 1)
   pub room : OwesNone o es → length recent + (o.shape.l + 1) ≤ o.shape.k * (o.shape.l + 1)
 
--- so it is in each record that follows lawfully
+-- this holds in each lawful record
 abbrev pub RecentIsShort : Type 0
 RecentIsShort = (o : Opening) (events : List Event) → FollowsLawfully o (reverse events)
     → IsRecentList o (reverse events) (touched_after o (reverse events) (issues (reverse events) * o.shape.k))
 
--- buckets of the recent nodes, in form, stamped with the next version and with nonces that count on
+-- buckets of the recent nodes, in form, with the next version and consecutive nonces
 pub record AreStamped (o : Opening) (recent : List ℕ) (version nonce : ℕ) (buckets : List Bucket) : Type 0 where
   pub nodes : nodes_in buckets ≡ recent
   pub in_form : All (IsInForm o.shape) buckets
   pub versions : All (λ bucket. bucket.version ≡ version) buckets
   pub nonces : map (λ bucket. bucket.nonce) buckets ≡ range_with_len nonce (length buckets)
 
--- Such buckets may be written where a period is full.
+-- Such buckets may be written if a period is full.
 abbrev pub IssueMayFollow : Type 0
 IssueMayFollow = (o : Opening) (events : List Event) (recent places : List ℕ) (n m a nonce : ℕ) (buckets : List Bucket) → TellsWrites o events recent places n m a nonce
     → n ≡ (m + 1) * o.shape.k → AreStamped o recent (m + 1) nonce buckets → MayBeIssued o (reverse events) (m + 1) nonce buckets

@@ -16,7 +16,7 @@ abbrev pub IssuedIs : Type 0
 IssuedIs = (o : Opening) (events : List Event) (p version nonce : ℕ) (buckets : List Bucket) (w : ℕ) → FollowsLawfully o (reverse events)
     → IsAt events p (Issue version nonce buckets) → is_issued (reverse events) version w ≡ list_any (λ v. v == w) (nodes_in buckets)
 
--- the newest write of a node: there is one, of the node, of its newest version, in form
+-- the bucket of a node's latest version: there is one, of this node and version, in form
 pub record IsNewestWrite (o : Opening) (es : List Event) (w : ℕ) : Type 0 where
   pub bucket : Bucket
   pub there : newest_write o es w ≡ Some bucket
@@ -24,7 +24,7 @@ pub record IsNewestWrite (o : Opening) (es : List Event) (w : ℕ) : Type 0 wher
   pub version : bucket.version ≡ newest_version es w
   pub in_form : IsInForm o.shape bucket
 
--- so it is for each node of the tree
+-- this holds for each node of the tree
 abbrev pub NewestWrite : Type 0
 NewestWrite = (o : Opening) (events : List Event) (w : ℕ) → OpensWithLoad o → FollowsLawfully o (reverse events) → 1 ≤ w → w ≤ node_count o.shape.l
     → IsNewestWrite o (reverse events) w

@@ -1,22 +1,22 @@
 //! Laws: the flags of Dones and of acknowledgements.
 ghost use Rattle.tao_tables.specs.Flags.{FlagsAreTold, FlagsAtStart, ReleasedByFlags, AckedByFlags};
 
-/// A Done and an acknowledgement raise one flag each, which was free.
+/// A Done and an acknowledgement set one flag each, which wasn't set.
 pub fn flags_are_told()
     ensures { FlagsAreTold }
 {}
 
-/// At the start no flag is up.
+/// At the start no flag is set.
 pub fn flags_at_start()
     ensures { FlagsAtStart }
 {}
 
-/// What the flags say is released is what the record has released.
+/// As many arrivals are released by the flags as by the record.
 pub fn released_by_flags()
     ensures { ReleasedByFlags }
 {}
 
-/// The flags give the first version that is outstanding.
+/// The flags give the first outstanding version.
 pub fn acked_by_flags()
     ensures { AckedByFlags }
 {}

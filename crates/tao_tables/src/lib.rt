@@ -1,5 +1,5 @@
-//! What one more event makes of the tables that a proxy keeps, and what these leave room for.
-//! There is little code but the laws: functions with empty bodies whose contract is the law.
+//! How one more event changes the tables that a proxy keeps, and how much memory it needs. Almost all of it is laws: functions with
+//! empty bodies whose contract is the law.
 #![tactic(auto)]
 
 mod answers;

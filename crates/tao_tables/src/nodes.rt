@@ -6,7 +6,7 @@ pub fn tells_arrive()
     ensures { TellsArrive }
 {}
 
-/// A Done brings its path, with what the fetch makes of its contents.
+/// A Done admits its path, with its contents after the fetch.
 pub fn tells_done()
     ensures { TellsDone }
 {}
@@ -16,7 +16,7 @@ pub fn tells_issue()
     ensures { TellsIssue }
 {}
 
-/// An acknowledgement lets nodes go.
+/// An acknowledgement drops nodes.
 pub fn tells_acked()
     ensures { TellsAcked }
 {}
@@ -31,7 +31,7 @@ pub fn tells_start()
     ensures { TellsStart }
 {}
 
-/// A node is covered at most once by each arrival, and once at least by one under way.
+/// Each arrival covers a node at most once, and one under way covers the nodes of its path.
 pub fn cover_is_bounded()
     ensures { CoverIsBounded }
 {}

@@ -1,4 +1,4 @@
-//! Laws: the pools are enough under each event.
+//! Laws: the pools suffice for each event.
 ghost use Rattle.tao_tables.specs.Pools.{CountsAreKnown, RoomGrows, RoomArrive, RoomDone, RoomIssue, RoomAcked, RoomAtStart, RoomReserve};
 
 /// The counts of a lawful record keep their order.
@@ -6,12 +6,12 @@ pub fn counts_are_known()
     ensures { CountsAreKnown }
 {}
 
-/// Larger pools are enough too.
+/// Larger pools suffice too.
 pub fn room_grows()
     ensures { RoomGrows }
 {}
 
-/// An arrival that there is room for finds what it takes.
+/// A preallocated arrival finds what it takes.
 pub fn room_arrive()
     ensures { RoomArrive }
 {}
@@ -31,12 +31,12 @@ pub fn room_acked()
     ensures { RoomAcked }
 {}
 
-/// At the start nothing is wanted.
+/// At the start nothing is needed.
 pub fn room_at_start()
     ensures { RoomAtStart }
 {}
 
-/// Pools that are filled up have room for one more arrival.
+/// Pools that are filled up suffice for one more arrival.
 pub fn room_reserve()
     ensures { RoomReserve }
 {}

@@ -1,12 +1,12 @@
 //! Laws: a record that a proxy makes.
 ghost use Rattle.tao_tables.specs.Proxies.{FollowsOn, OwesInTurn, ProxyGoesOn};
 
-/// It stays one under each event that comes lawfully, a write-back with what is held.
+/// It stays one under each lawful event, if a write-back has what is held.
 pub fn proxy_goes_on()
     ensures { ProxyGoesOn }
 {}
 
-/// A lawful record goes on lawfully with an event that may follow.
+/// A lawful record stays lawful with an event that may follow.
 pub fn follows_on()
     ensures { FollowsOn }
 {}

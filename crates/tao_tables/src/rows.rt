@@ -11,7 +11,7 @@ pub fn rows_at_start()
     ensures { RowsAtStart }
 {}
 
-/// A real arrival fetches its block's position, another one its own word's leaf.
+/// A real arrival fetches the leaf of its block, any other one that of its own word.
 pub fn arrival_fetches()
     ensures { ArrivalFetches }
 {}

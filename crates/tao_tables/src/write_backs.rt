@@ -1,7 +1,7 @@
 //! Laws: what is kept of the write-backs.
 ghost use Rattle.tao_tables.specs.WriteBacks.{WritesAreTold, WritesAtStart, OneRisingList, RecentIsShort, IssueMayFollow};
 
-/// A Done puts its path in, a write-back starts the next list.
+/// A Done adds its path, a write-back starts the next list.
 pub fn writes_are_told()
     ensures { WritesAreTold }
 {}
@@ -16,12 +16,12 @@ pub fn one_rising_list()
     ensures { OneRisingList }
 {}
 
-/// The nodes of the coming write-back rise and are few.
+/// The nodes of the next write-back rise and are few.
 pub fn recent_is_short()
     ensures { RecentIsShort }
 {}
 
-/// The recent nodes, stamped, may be written where a period is full.
+/// The recent nodes, stamped, may be written if a period is full.
 pub fn issue_may_follow()
     ensures { IssueMayFollow }
 {}

@@ -6,7 +6,7 @@ pub fn issued_is()
     ensures { IssuedIs }
 {}
 
-/// Each node of the tree has a newest write, of its newest version, in form.
+/// Each node of the tree has a bucket of its latest version, in form.
 pub fn newest_write_is()
     ensures { NewestWrite }
 {}
