@@ -1,4 +1,4 @@
--- What is held once the buckets of a path have come.
+-- What is held once the buckets of a path are admitted.
 use Rattle.std.proofs.Common.{◌≡◌, ℕ, suc, ◌+◌, ◌^◌, ◌<◌, Bool, true, false, not, ◌&&◌, ◌||◌, cond, nat_eq, List, [], ◌∷◌, length, get_or, set, Option, Some, None, is_some, IfSome, refl, sym, ap, ◌∙◌, subst, arith, inl, inr, ◌⊎◌, All}
 use Rattle.std.specs.Prelude.{filter, ⊤}
 use Rattle.std.proofs.Math.Path.{fun_ext}
@@ -58,7 +58,7 @@ once_filter p (n ∷ ns) once = either (cases_Bool (p n)) (once_filter p ns once
     either (inl passes) rest = rw passes (off, rest)
     either (inr fails) rest = rw fails rest
 
--- ---- residents with more
+-- ---- residents with admitted buckets
 
 taken_other : (rs : List (Option Bucket)) (bs : List Bucket) (w : ℕ) → has w (nodes_in bs) ≡ false → get_or (with_taken rs bs) w None ≡ get_or rs w None
 taken_other rs [] w off = refl
@@ -87,7 +87,7 @@ taken_len : (rs : List (Option Bucket)) (bs : List Bucket) → length (with_take
 taken_len rs [] = refl
 taken_len rs (b ∷ bs) = length-set (with_taken rs bs) b.node (Some b) ∙ taken_len rs bs
 
--- what a place has, in any words
+-- what holds of a place, for any view of it
 taken_at : {X : Type 0} (f : Option Bucket → X) (here : ℕ → List Bucket → X) → (rs : List (Option Bucket)) (bs : List Bucket) (w : ℕ) → All (λ b. b.node < length rs) bs
     → ((b : Bucket) (rest : List Bucket) → b.node ≡ w → here w (b ∷ rest) ≡ f (Some b)) → ((b : Bucket) (rest : List Bucket) → (b.node ≡ w → ⊥) → here w (b ∷ rest) ≡ here w rest)
     → f (get_or (with_taken rs bs) w None) ≡ cond (has w (nodes_in bs)) (here w bs) (f (get_or rs w None))
@@ -107,7 +107,7 @@ taken_at f here rs (b ∷ bs) w within at off = either (cases_eq b.node w) (take
         ∙ sym (ap (λ t. cond (t || has w (nodes_in bs)) (here w (b ∷ bs)) (f (get_or rs w None))) (ne_eqb b.node w other)
         ∙ ap (λ x. cond (has w (nodes_in bs)) x (f (get_or rs w None))) (off b bs other))
 
--- the nodes are still those of their places, in form
+-- each bucket is still of its place's node, in form
 taken_form : (s : Shape) (rs : List (Option Bucket)) (bs : List Bucket) → AreNodes s rs → All (IsInForm s) bs → All (λ b. b.node < length rs) bs → AreNodes s (with_taken rs bs)
 taken_form s rs [] nodes fit within = nodes
 taken_form s rs (b ∷ bs) nodes fit within = λ w. either w (cases_eq w b.node)

@@ -21,9 +21,9 @@ use Rattle.tao_model.proofs.OneEviction.{one_eviction}
 use Rattle.tao_model.specs.Lawful.{IsInForm}
 use Rattle.tao_model.specs.Placement.{Rises, with_stash}
 use Rattle.tao_holdings.specs.Holding.{entries_of}
-use Rattle.tao_holdings.specs.Lists.{held_in, entries_in, AreNodes, relisted, Relists}
+use Rattle.tao_holdings.specs.Lists.{entries_in, AreNodes, relisted, Relists}
 use Rattle.tao_holdings.specs.Parts.{AreEmpty}
-use Rattle.tao_holdings.proofs.Swapped.{path_distinct, relists_held}
+use Rattle.tao_holdings.proofs.Swapped.{path_distinct}
 
 -- ---- entries in form
 
@@ -59,7 +59,7 @@ path_fits s at rs form lists is = subst (All (AreNodeEntries s)) (sym is) (λ k 
     let len = lists_len s.l at (entries_in rs) in
     subst (AreNodeEntries s) (sym (list_at s.l at k (entries_in rs) d (omega arith))) (entries_fit s (node_at s.l at k) (get_or rs (node_at s.l at k) None) (form (node_at s.l at k))).fit)
 
--- what holds of each list, and of what else lies there
+-- a fact of all lists and of what lay there before
 pub with_lists_keep : (P : List Entry → Type 0) (nodes : List ℕ) (lists : List (List Entry)) (e : ℕ → List Entry) (w : ℕ) → All P lists → P (e w) → P (with_lists nodes lists e w)
 with_lists_keep P [] lists e w each rest = rest
 with_lists_keep P (v ∷ nodes) [] e w each rest = rest
@@ -70,7 +70,7 @@ with_lists_keep P (v ∷ nodes) (l ∷ lists) e w each rest =
     either (inl here) ih = rw here (each 0 l (omega arith))
     either (inr other) ih = rw other ih
 
--- where a node has its list, the rest doesn't matter
+-- a node that has its list has nothing of the rest
 pub with_lists_any : (nodes : List ℕ) (lists : List (List Entry)) (e f : ℕ → List Entry) (w : ℕ) → length nodes ≡ length lists → has w nodes ≡ true
     → with_lists nodes lists e w ≡ with_lists nodes lists f w
 with_lists_any [] lists e f w len on = absurd (true≢false (sym on))
@@ -86,9 +86,6 @@ with_lists_any (v ∷ nodes) (l ∷ lists) e f w len on = either (cases_Bool (na
 
 module _ (s : Shape) (at : ℕ) (small : at < 2 ^ s.l) (empty : List (List Entry)) (wait : AreEmpty (s.l + 1) empty) (old mid : List (Option Bucket))
     (held : (w : ℕ) → is_on_path s.l at w ≡ true → is_some (get_or old w None) ≡ true) (first : Relists (path s.l at) empty old mid) where
-  pub mid_held : (w : ℕ) → is_on_path s.l at w ≡ true → is_some (get_or mid w None) ≡ true
-  mid_held w on = relists_held (path s.l at) empty old mid w first ∙ held w on
-
   -- the lists come back empty
   pub lists_back : (lists : List (List Entry)) → lists ≡ lists_on s.l at (entries_in mid) → lists ≡ empty
   lists_back lists is = same_lists lists empty (ap length is ∙ lists_len s.l at (entries_in mid) ∙ sym wait.len) (λ k x below.
@@ -110,9 +107,6 @@ module _ (s : Shape) (at : ℕ) (small : at < 2 ^ s.l) (empty : List (List Entry
   module _ (lists : List (List Entry)) (len : length lists ≡ s.l + 1) (new : List (Option Bucket)) (then : Relists (path s.l at) lists mid new) where
     both : (w : ℕ) → get_or new w None ≡ option_map (relisted (path s.l at) lists w) (option_map (relisted (path s.l at) empty w) (get_or old w None))
     both w = then w ∙ ap (option_map (relisted (path s.l at) lists w)) (first w)
-
-    pub new_held : held_in new ≡ held_in old
-    new_held = fun_ext (λ w. relists_held (path s.l at) lists mid new w then ∙ relists_held (path s.l at) empty old mid w first)
 
     -- what a node has then
     new_at : (w : ℕ) → entries_in new w ≡ with_lists (path s.l at) lists (entries_in old) w

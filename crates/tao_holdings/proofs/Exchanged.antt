@@ -1,4 +1,4 @@
--- The entries of some residents, exchanged with those of buckets.
+-- The entries of residents, exchanged with those of buckets.
 use Rattle.std.proofs.Common.{◌≡◌, ℕ, zero, suc, ◌+◌, ◌<◌, ◌≤◌, Bool, true, false, ◌||◌, cond, nat_eq, List, [], ◌∷◌, ◌++◌, length, get_or, set, map, take, Option, Some, None, is_some, IfSome, refl, sym, ap, ap₂, ◌∙◌, subst, arith, inl, inr, ◌⊎◌, All}
 use Rattle.std.specs.List.Sorted.{IsStrictlyIncreasing}
 use Rattle.std.specs.Option.{option_map}
@@ -46,15 +46,6 @@ same_bucket : (o : Option Bucket) → option_map (λ (bucket : Bucket). record b
 same_bucket None = refl
 same_bucket (Some x) = refl
 
-pub exchanging_none : (given : List Bucket) (st : SubtreeState) → Exchanging given given st st 0
-exchanging_none given st = record {
-  residents = λ w. sym (same_bucket (get_or st.residents w None));
-  others = refl;
-  kept = refl;
-  before = λ k x below within. absurd (omega arith);
-  after = λ k x above. refl;
-}
-
 module _ (given buckets : List Bucket) (old now : SubtreeState) (d : ℕ) (y : Bucket) (len : length buckets ≡ length given) (within : d < length given)
     (distinct : AreDistinct (nodes_in given)) (s : Exchanging given buckets old now d) where
   abbrev x : Bucket
@@ -77,11 +68,6 @@ module _ (given buckets : List Bucket) (old now : SubtreeState) (d : ℕ) (y : B
 
   off : has x.node (take d (nodes_in given)) ≡ false
   off = sym (ap (λ n. has n (take d (nodes_in given))) node_is) ∙ next_off (nodes_in given) d distinct (let n = nodes_len in omega arith)
-
-  pub next_held : All (λ (b : Bucket). held_in old.residents b.node ≡ true) given → held_in now.residents x.node ≡ true
-  next_held held =
-      relists_held (take d (nodes_in given)) (take d (lists_in given)) old.residents now.residents x.node s.residents
-      ∙ subst (λ (b : Bucket). held_in old.residents b.node ≡ true) (sym x_is) (held d y within)
 
   pub exchanging_more : (new : SubtreeState) (back : Bucket) → Relists (x.node ∷ []) (x.entries ∷ []) now.residents new.residents
       → new ≡ record now { residents = new.residents; spare = new.spare } → KeepsRoom now new → back ≡ with_entries_of (entries_in now.residents) x
@@ -134,7 +120,7 @@ with_lists_buckets (b ∷ bs) e w = either (nat_eq b.node w) (has w (nodes_in bs
     either true u ih = refl
     either false u ih = ih
 
--- a node of the buckets is held
+-- a node of these buckets is held
 node_held : (rs : List (Option Bucket)) (bs : List Bucket) (w : ℕ) → All (λ (b : Bucket). held_in rs b.node ≡ true) bs → has w (nodes_in bs) ≡ true → held_in rs w ≡ true
 node_held rs [] w held on = absurd (true≢false (sym on))
 node_held rs (b ∷ bs) w held on = either (node_held rs bs w (λ k d below. held (suc k) d (omega arith))) (or_cases (nat_eq b.node w) (has w (nodes_in bs)) on)
@@ -171,7 +157,7 @@ module _ (s : Shape) (bs : List Bucket) (old new : List (Option Bucket)) (is : R
       each None h = tt
       each (Some b) h = (h.0, bucket_form s b (with_lists (nodes_in bs) (lists_in bs) (λ v. b.entries) w) h.1 (with_lists_keep (FitNode s) (nodes_in bs) (lists_in bs) (λ v. b.entries) w fits (bucket_fits s b h.1)))
 
--- what the nodes have is as a bucket may have it
+-- the nodes' entries fit into buckets
 out_form : (s : Shape) (bs : List Bucket) (old : List (Option Bucket)) → All (IsInForm s) bs → AreNodes s old → All (IsInForm s) (map (with_entries_of (entries_in old)) bs)
 out_form s bs old fit form = All-map (IsInForm s) (with_entries_of (entries_in old)) bs
     (λ k d below. bucket_form s (get_or bs k d) (entries_in old (get_or bs k d).node) (fit k d below) (entries_fit s (get_or bs k d).node (get_or old (get_or bs k d).node None) (form (get_or bs k d).node)))

@@ -16,7 +16,7 @@ use Rattle.tao_holdings.specs.Lists.{entries_in, AreNodes}
 use Rattle.tao_holdings.proofs.Arrived.{not_zero}
 use Rattle.tao_holdings.proofs.EvictedPath.{entries_fit}
 
--- ---- length of what is found
+-- ---- the length of what is found
 
 look_fits : (s : Shape) (b : ℕ) (entries : List Entry) → All (IsEntry s) entries → IfSome (look b entries) (λ value. length value ≡ s.b)
 look_fits s b [] each = tt

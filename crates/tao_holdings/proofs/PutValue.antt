@@ -1,4 +1,4 @@
--- A put, by what is looked up, and as a list.
+-- A put, as a look-up sees it and as a list.
 use Rattle.std.proofs.Common.{◌≡◌, ℕ, ◌<◌, cond, nat_eq, List, [], ◌∷◌, Some, refl, sym, ap, ◌∙◌, subst, inl, inr, ◌⊎◌}
 use Rattle.std.proofs.Math.Path.{fun_ext}
 use Rattle.std.proofs.lemmas.Bool.{eq-eqb, ne_eqb, cases_eq}
@@ -15,7 +15,7 @@ use Rattle.tao_base.specs.Limits.{Shape}
 use Rattle.tao_holdings.specs.Holding.{HoldingsState, contents_in}
 use Rattle.tao_holdings.specs.Parts.{state_of}
 
--- a stash with one value put is what that entry and the stash gather to
+-- a stash with one value put is what this entry and the stash gather to
 pub put_is_gathered : (old new : List Entry) (b : ℕ) (value : List ℕ) → Rises 0 new → PutsValue old new b value → new ≡ gather (entry_of b value ∷ []) old
 put_is_gathered old new b value rises puts =
     same_entries 0 new (gather (entry_of b value ∷ []) old) rises is.0 (λ c. each c (cases_eq b c))

@@ -1,4 +1,4 @@
--- The lists of some nodes, exchanged one after another.
+-- The lists of nodes, exchanged one after another.
 use Rattle.std.proofs.Common.{◌≡◌, ℕ, suc, ◌+◌, ◌^◌, ◌<◌, ◌≤◌, true, false, cond, nat_eq, List, [], ◌∷◌, ◌++◌, length, get_or, set, take, Option, Some, None, is_some, refl, sym, ap, ◌∙◌, subst, arith, inl, inr, ◌⊎◌}
 use Rattle.std.specs.Option.{option_map, IsSomeAnd}
 use Rattle.std.proofs.lemmas.Bool.{true≢false, false_from_ne_true, or_cases, or_parts, eqb-true, eq-eqb, ne_eqb, cases_eq, cases_lt}
@@ -65,7 +65,7 @@ swaps_one old new v given back swapped = by_bucket (resident_at old v) refl swap
       s.1 ∙ sym (ap entries_of here),
     )
 
--- ---- more and more nodes
+-- ---- node after node
 
 -- no node twice
 abbrev pub AreDistinct : List ℕ → Type 0
@@ -89,7 +89,7 @@ next_off nodes d distinct within = false_from_ne_true (has (get_or nodes d 0) (t
     let k_in : found.0 < d = omega arith in
     distinct found.0 d k_in within (sym (get_or-take d nodes found.0 0 k_in) ∙ found.2))
 
--- one node more gets its list
+-- one more node gets its list
 with_more : (nodes : List ℕ) (lists : List (List Entry)) (v : ℕ) (x : List Entry) (e : ℕ → List Entry) (w : ℕ) → length nodes ≡ length lists → has v nodes ≡ false
     → with_lists (nodes ++ v ∷ []) (lists ++ x ∷ []) e w ≡ cond (nat_eq v w) x (with_lists nodes lists e w)
 with_more [] [] v x e w len off = refl
@@ -115,7 +115,7 @@ relists_more nodes lists v x old mid new len off first then w =
     each None = refl
     each (Some b) = ap (λ (es : List Entry). Some (record b { entries = es })) (sym (with_more nodes lists v x (λ u. b.entries) w len off))
 
--- off the nodes nothing has changed
+-- all other nodes are unchanged
 pub relists_off : (nodes : List ℕ) (lists : List (List Entry)) (old new : List (Option Bucket)) (w : ℕ) → Relists nodes lists old new → has w nodes ≡ false
     → get_or new w None ≡ get_or old w None
 relists_off nodes lists old new w is off = is w ∙ each (get_or old w None)
@@ -124,7 +124,7 @@ relists_off nodes lists old new w is off = is w ∙ each (get_or old w None)
     each None = refl
     each (Some b) = ap (λ (es : List Entry). Some (record b { entries = es })) (with_lists_off nodes lists (λ u. b.entries) w off)
 
--- each node has a bucket exactly where it had one
+-- each node has a bucket exactly if it had one
 pub relists_held : (nodes : List ℕ) (lists : List (List Entry)) (old new : List (Option Bucket)) (w : ℕ) → Relists nodes lists old new → is_some (get_or new w None) ≡ is_some (get_or old w None)
 relists_held nodes lists old new w is = ap is_some (is w) ∙ each (get_or old w None)
   where
@@ -139,15 +139,6 @@ pub record Swapping (nodes : List ℕ) (given lists : List (List Entry)) (old no
   pub kept : KeepsRoom old now
   pub before : (k : ℕ) (x : List Entry) → k < d → get_or lists k x ≡ entries_in old.residents (get_or nodes k 0)
   pub after : (k : ℕ) (x : List Entry) → d ≤ k → get_or lists k x ≡ get_or given k x
-
-pub swapping_none : (nodes : List ℕ) (lists : List (List Entry)) (st : SubtreeState) → Swapping nodes lists lists st st 0
-swapping_none nodes lists st = record {
-  residents = λ w. sym (same_bucket (get_or st.residents w None));
-  others = refl;
-  kept = refl;
-  before = λ k x below. absurd (omega arith);
-  after = λ k x above. refl;
-}
 
 pub swapping_more : (nodes : List ℕ) (given lists : List (List Entry)) (old now new : SubtreeState) (d v : ℕ) (x y back : List Entry) → AreDistinct nodes → d < length nodes
     → length given ≡ length nodes → length lists ≡ length given → v ≡ get_or nodes d 0 → x ≡ get_or lists d y → Swapping nodes given lists old now d

@@ -1,5 +1,5 @@
--- Buckets that come to the residents.
-use Rattle.std.proofs.Common.{◌≡◌, ℕ, suc, ◌+◌, ◌<◌, ◌≤◌, Bool, false, cond, List, [], ◌∷◌, ◌++◌, length, get_or, set, Option, Some, None, is_some, sym, ap, ◌∙◌, subst, arith, append_assoc, All}
+-- Buckets that are admitted.
+use Rattle.std.proofs.Common.{◌≡◌, ℕ, suc, ◌+◌, ◌<◌, ◌≤◌, Bool, false, cond, List, [], ◌∷◌, ◌++◌, length, get_or, set, Option, Some, None, is_some, ap, ◌∙◌, subst, arith, append_assoc, All}
 use Rattle.std.specs.Prelude.{count_by}
 use Rattle.std.proofs.lemmas.List.{length-set}
 use Rattle.std.proofs.lemmas.List.Sums.{count_by-le-length, sum_by-set}
@@ -9,7 +9,7 @@ use Rattle.tao_base.specs.Tree.{node_count}
 use Rattle.tao_subtree.specs.Residents.{SubtreeState, resident_at, resident_count, HasPlaces, KeepsRoom}
 use Rattle.tao_holdings.specs.Lists.{with_taken, AreAway}
 
--- where a place is free, there are fewer residents than places
+-- if a place is free, there are fewer residents than places
 count_below : (nodes : List (Option Bucket)) (w : ℕ) (b : Bucket) → w < length nodes → is_some (get_or nodes w None) ≡ false → count_by is_some nodes < length nodes
 count_below nodes w b within free =
     let more = sum_by-set (λ (x : Option Bucket). cond {A = ℕ} (is_some x) 1 0) nodes w (Some b) None within in
@@ -26,14 +26,14 @@ has_spare st b places high free room =
     let less = count_below st.residents b.node b (omega arith) free in
     omega arith
 
--- of all buckets those from some place on have come
+-- the buckets from some place on are admitted
 pub record Taking (old new : SubtreeState) (all rest : List Bucket) : Type 0 where
   pub done : List Bucket
   pub split : all ≡ rest ++ done
   pub state : new ≡ record old { residents = with_taken old.residents done; spare = new.spare }
   pub kept : KeepsRoom old new
 
--- the next one to come is away
+-- the node of the next one isn't resident
 pub next_away : (nodes : List (Option Bucket)) (before : List Bucket) (b : Bucket) (done : List Bucket) → AreAway nodes (before ++ b ∷ done)
     → is_some (get_or (with_taken nodes done) b.node None) ≡ false
 next_away nodes [] b done away = away.0
@@ -47,19 +47,6 @@ pub taking_away : (old now : SubtreeState) (all rest rest' : List Bucket) (b : B
 taking_away old now all rest rest' b away t popped =
     ap (λ (st : SubtreeState). is_some (resident_at st b.node)) t.state
     ∙ next_away old.residents rest' b t.done (subst (AreAway old.residents) (split_more all rest rest' t.done b t.split popped) away)
-
-pub taking_room : (old now : SubtreeState) (all rest : List Bucket) → resident_count old + old.spare ≡ node_count old.shape.l + 1 → Taking old now all rest
-    → resident_count now + now.spare ≡ node_count now.shape.l + 1
-taking_room old now all rest room t = t.kept ∙ room ∙ sym (ap (λ (st : SubtreeState). node_count st.shape.l + 1) t.state)
-
-pub taking_more : (old now new : SubtreeState) (all rest rest' : List Bucket) (b : Bucket) → Taking old now all rest → rest ≡ rest' ++ b ∷ []
-    → new ≡ record now { residents = set now.residents b.node (Some b); spare = new.spare } → KeepsRoom now new → Taking old new all rest'
-taking_more old now new all rest rest' b t popped state kept = record {
-  done = b ∷ t.done;
-  split = split_more all rest rest' t.done b t.split popped;
-  state = state ∙ ap (λ (st : SubtreeState). record st { residents = set st.residents b.node (Some b); spare = new.spare }) t.state;
-  kept = kept ∙ t.kept;
-}
 
 -- the bucket that was popped is in the list
 pub popped_in : (P : Bucket → Type 0) (old now : SubtreeState) (all rest rest' : List Bucket) (b : Bucket) → All P all → Taking old now all rest → rest ≡ rest' ++ b ∷ [] → P b

@@ -1,9 +1,8 @@
--- Versions of some nodes, changed one after another.
-use Rattle.std.proofs.Common.{◌≡◌, ℕ, ◌+◌, ◌<◌, Bool, true, false, ◌||◌, cond, nat_eq, List, [], ◌∷◌, ◌++◌, length, get_or, set, take, is_some, refl, sym, ap, ◌∙◌, subst, arith, inl, inr, ◌⊎◌, All}
+-- Versions of nodes, changed one after another.
+use Rattle.std.proofs.Common.{◌≡◌, ℕ, ◌<◌, true, false, cond, nat_eq, List, length, get_or, set, take, is_some, sym, ap, ◌∙◌, subst, arith, inl, inr, ◌⊎◌, All}
 use Rattle.std.specs.List.Sorted.{IsStrictlyIncreasing}
 use Rattle.std.proofs.lemmas.Bool.{eq-eqb, ne_eqb, cases_eq}
-use Rattle.std.proofs.lemmas.List.{take_more, get_or-set_same, get_or-set_other}
-use Rattle.std.proofs.lemmas.List.Folds.{list_any-append}
+use Rattle.std.proofs.lemmas.List.{get_or-set_same, get_or-set_other}
 use Rattle.tao_model.proofs.FallingPaths.{has}
 use Rattle.tao_subtree.specs.Residents.{SubtreeState, resident_at, version_at, HasPlaces}
 use Rattle.tao_holdings.specs.Holding.{written_at}
@@ -26,27 +25,10 @@ set_at old new v version places held is w =
     either below (inr other) =
         get_or-set_other old.versions v w version 0 other ∙ sym (ap (λ t. cond t version (get_or old.versions w 0)) (ne_eqb v w (λ same. other (sym same))))
 
--- the first nodes have the version
+-- the first d nodes have the version
 pub record Versioning (nodes : List ℕ) (version : ℕ) (old now : SubtreeState) (d : ℕ) : Type 0 where
   pub versions : (w : ℕ) → version_at now w ≡ written_at (take d nodes) version (version_at old) w
   pub others : now ≡ record old { versions = now.versions }
-
-pub versioning_more : (nodes : List ℕ) (version : ℕ) (old now new : SubtreeState) (d v x : ℕ) → d < length nodes → v ≡ get_or nodes d x → Versioning nodes version old now d
-    → ((w : ℕ) → version_at new w ≡ cond (nat_eq v w) version (version_at now w)) → new ≡ record now { versions = new.versions } → Versioning nodes version old new (d + 1)
-versioning_more nodes version old now new d v x within is s one others = record {
-  versions = λ w.
-      let split : has w (take (d + 1) nodes) ≡ (has w (take d nodes) || (nat_eq v w || false)) =
-      ap (has w) (take_more nodes d x within ∙ ap (λ n. take d nodes ++ n ∷ []) (sym is)) ∙ list_any-append (λ u. nat_eq u w) (take d nodes) (v ∷ []) in
-      one w ∙ ap (λ n. cond (nat_eq v w) version n) (s.versions w) ∙ either (nat_eq v w) (has w (take d nodes)) (version_at old w)
-      ∙ sym (ap (λ t. cond t version (version_at old w)) split);
-  others = others ∙ ap (λ (st : SubtreeState). record st { versions = new.versions }) s.others;
-}
-  where
-    either : (t u : Bool) (n : ℕ) → cond t version (cond u version n) ≡ cond (u || (t || false)) version n
-    either true true n = refl
-    either true false n = refl
-    either false true n = refl
-    either false false n = refl
 
 -- the next node is held, and hasn't the version yet
 pub next_newer : (nodes : List ℕ) (version : ℕ) (old now : SubtreeState) (d v : ℕ) → IsStrictlyIncreasing nodes → d < length nodes → v ≡ get_or nodes d 0

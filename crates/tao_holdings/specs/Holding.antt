@@ -8,8 +8,8 @@ use Rattle.tao_base.specs.Tree.{leaf_of, is_on_path}
 use Rattle.tao_flush.specs.Blocks.{IsStash}
 use Rattle.tao_model.specs.Lawful.{IsInForm}
 
--- by the number of each node: its bucket where it is held, how many fetches under way cover it, its touch, and its last version; and the
--- entries of the stash, and the word of each block
+-- for each node its bucket if it is held, how many fetches under way cover it, its touch and its latest version; the entries of the stash;
+-- and the word of each block
 pub record HoldingsState : Type 0 where
   pub shape : Shape
   pub nodes : List (Option Bucket)
@@ -23,12 +23,12 @@ pub record HoldingsState : Type 0 where
 abbrev pub is_held : HoldingsState → ℕ → Bool
 is_held st w = is_some (slice_index_or st.nodes w None)
 
--- the entries of a bucket, where there is one
+-- the entries of a bucket, if there is one
 abbrev pub entries_of : Option Bucket → List Entry
 entries_of None = []
 entries_of (Some bucket) = bucket.entries
 
--- the entries of a node that is held; of the stash, which is node 0; else none
+-- the entries of a held node, or of the stash, which is node 0; else none
 abbrev pub contents_in : HoldingsState → ℕ → List Entry
 contents_in st w = if w == 0 then st.stash else entries_of (slice_index_or st.nodes w None)
 
@@ -56,7 +56,7 @@ IsPathHeld st leaf = (w : ℕ) → is_on_path st.shape.l leaf w ≡ true → is_
 abbrev pub one_more : ℕ → ℕ → (ℕ → ℕ) → ℕ → ℕ
 one_more l leaf counts w = if is_on_path l leaf w then counts w + 1 else counts w
 
--- and once it has ended
+-- the counts once it has ended
 abbrev pub one_less : ℕ → ℕ → (ℕ → ℕ) → ℕ → ℕ
 one_less l leaf counts w = if is_on_path l leaf w then counts w - 1 else counts w
 
@@ -80,15 +80,15 @@ none_held shape stash words = record {
 abbrev pub may_go : HoldingsState → ℕ → ℕ → Bool
 may_go st version w = nat_le (touch_in st w) (version * st.shape.k) && (count_in st w == 0)
 
--- what is held without a node, where that may leave
+-- what is held without a node, if that may leave
 abbrev pub without : HoldingsState → ℕ → ℕ → (ℕ → Bool) → ℕ → Bool
 without st version node held w = held w && not (w == node && may_go st version w)
 
--- what the nodes have then
+-- what the nodes have then, without this node's entries
 abbrev pub left_by : HoldingsState → ℕ → ℕ → (ℕ → List Entry) → ℕ → List Entry
 left_by st version node contents w = if not (w == 0) && (w == node && may_go st version w) then [] else contents w
 
--- each node that is held has a bucket of its own in form, the stash is in order, and each block has a word
+-- each held node has a bucket of its own in form, the stash is in order, and each block has a word
 pub record AreForms (st : HoldingsState) : Type 0 where
   pub shape : IsShape st.shape
   pub words : length st.words ≡ st.shape.n

@@ -6,7 +6,7 @@ use Rattle.tao_base.specs.declared.storage.Entry.{Entry}
 use Rattle.tao_model.specs.Trace.{nodes_in}
 use Rattle.tao_holdings.specs.Lists.{with_entries_of, with_buckets}
 
--- entries that were exchanged, exchanged once more, are back
+-- entries that are exchanged twice are back
 abbrev pub ExchangedBack : Type 0
 ExchangedBack = (buckets : List Bucket) (contents : ℕ → List Entry) → IsStrictlyIncreasing (nodes_in buckets)
     → (with_buckets (map (with_entries_of contents) buckets) (with_buckets buckets contents) ≡ contents)

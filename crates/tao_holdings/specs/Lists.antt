@@ -23,21 +23,21 @@ held_in nodes w = is_some (slice_index_or nodes w None)
 abbrev pub AreNodes : Shape → List (Option Bucket) → Type 0
 AreNodes s nodes = (w : ℕ) → IfSome (slice_index_or nodes w None) (λ bucket. (bucket.node ≡ w) × IsInForm s bucket)
 
--- these buckets are among the residents, the last one first
+-- the residents after these buckets are admitted, the last one first
 abbrev pub with_taken : List (Option Bucket) → List Bucket → List (Option Bucket)
 with_taken nodes [] = nodes
 with_taken nodes (bucket ∷ buckets) = slice_set (with_taken nodes buckets) bucket.node (Some bucket)
 
--- none of these buckets is of a resident, or of a node that another one is of
+-- these buckets are of nodes that aren't resident, no two of the same node
 abbrev pub AreAway : List (Option Bucket) → List Bucket → Type 0
 AreAway nodes [] = ⊤
 AreAway nodes (bucket ∷ buckets) = (is_some (slice_index_or (with_taken nodes buckets) bucket.node None) ≡ false) × AreAway nodes buckets
 
--- a bucket of node w, where some nodes get these lists, one each
+-- the bucket of node w, where these nodes get these lists, one each
 abbrev pub relisted : List ℕ → List (List Entry) → ℕ → Bucket → Bucket
 relisted nodes lists w bucket = record bucket { entries = with_lists nodes lists (λ v. bucket.entries) w }
 
--- of the residents some nodes have got these lists
+-- of the residents, these nodes have got these lists
 abbrev pub Relists : List ℕ → List (List Entry) → List (Option Bucket) → List (Option Bucket) → Type 0
 Relists nodes lists old new = (w : ℕ) → slice_index_or new w None ≡ option_map (relisted nodes lists w) (slice_index_or old w None)
 
@@ -49,6 +49,6 @@ with_entries_of contents bucket = record bucket { entries = contents bucket.node
 abbrev pub lists_in : List Bucket → List (List Entry)
 lists_in buckets = map (λ bucket. bucket.entries) buckets
 
--- what the nodes have, where those of these buckets have their entries
+-- what the nodes have, where the nodes of these buckets have the buckets' entries
 abbrev pub with_buckets : List Bucket → (ℕ → List Entry) → ℕ → List Entry
 with_buckets buckets contents w = if list_any (λ v. v == w) (nodes_in buckets) then entries_at buckets w else contents w

@@ -1,4 +1,4 @@
--- What holds of the parts of the holdings.
+-- How the parts of the holdings fit together.
 use Rattle.std.specs.Prelude.{◌≡◌, ℕ, ◌+◌, List, [], length, All}
 use Rattle.tao_base.specs.declared.storage.Entry.{Entry}
 use Rattle.tao_base.specs.Limits.{Shape, IsShape}
@@ -9,12 +9,12 @@ use Rattle.tao_subtree.specs.Residents.{SubtreeState, resident_count}
 use Rattle.tao_holdings.specs.Holding.{HoldingsState}
 use Rattle.tao_holdings.specs.Lists.{AreNodes}
 
--- so many empty lists
+-- this many empty lists
 pub record AreEmpty (count : ℕ) (lists : List (List Entry)) : Type 0 where
   pub len : length lists ≡ count
   pub empty : All (λ list. list ≡ []) lists
 
--- The parts are made for one store. Each resident is a bucket in form, there is room for all nodes, and the lists of a path wait empty.
+-- The parts are of one store. Each resident has a bucket in form, there is capacity for all nodes, and the lists of a path are empty.
 pub record IsHoldings (s : Shape) (subtree : SubtreeState) (stash : StashState) (positions : PositionsState) (lists : List (List Entry)) : Type 0 where
   pub shape : IsShape s
   pub subtree_shape : subtree.shape ≡ s
@@ -25,7 +25,7 @@ pub record IsHoldings (s : Shape) (subtree : SubtreeState) (stash : StashState) 
   pub empty : AreEmpty (s.l + 1) lists
   pub room : resident_count subtree + subtree.spare ≡ node_count s.l + 1
 
--- the state that these parts are
+-- the state that these parts make up
 abbrev pub state_of : Shape → SubtreeState → StashState → PositionsState → HoldingsState
 state_of s subtree stash positions = record {
   shape = s;

@@ -1,4 +1,4 @@
-//! The eviction of a path whose nodes are held.
+//! Evicts a path whose nodes are held.
 ghost use Rattle.std.specs.Prelude.{◌≡◌, ℕ, ◌+◌, ◌^◌, ◌<◌, true};
 ghost use Rattle.tao_base.specs.Tree.{is_on_path};
 ghost use Rattle.tao_held.specs.Steps.{evict};
@@ -14,7 +14,7 @@ use tao_base::{Entries, Params};
 use tao_flush::{Positions, Stash, flush};
 use tao_subtree::Subtree;
 
-/// Evicts the path to a leaf. The lists wait empty, and are so again.
+/// Evicts the path to a leaf. The lists are empty before and after.
 pub(crate) fn evict_path(
     p: &Params,
     subtree: &mut Subtree,

@@ -1,4 +1,4 @@
-//! The holdings.
+//! What the proxy holds, as one type.
 ghost use Rattle.std.specs.Prelude.{◌≡◌, ℕ, None, IfOk, slice_set, count_by, is_some, vec_len, true, ◌+◌, ◌^◌, ◌<◌, ◌≤◌, [], map, not, filter, length, All};
 ghost use Rattle.std.specs.List.{slice_index_or};
 ghost use Rattle.std.specs.Option.{option_map, option_copied};
@@ -32,7 +32,7 @@ pub struct Holdings {
     subtree: Subtree,
     stash: Stash,
     positions: Positions,
-    // of use during an eviction alone: the entries of a path's nodes
+    // the entries of a path's nodes during an eviction, else empty
     lists: Vec<Entries>,
 }
 
@@ -51,7 +51,7 @@ impl Model for Holdings {
 impl Holdings {
     ghost use Rattle.tao_holdings.specs.Holding.{is_held, contents_in, version_in, written_at, none_held, without, left_by, AreForms, count_in, touch_in, leaf_by, IsPathHeld, one_more, one_less, touched};
 
-    /// The load of all blocks: the buckets of all nodes from the root on, and what is held once they are sent. It takes the room of all nodes.
+    /// Loads all blocks: the buckets of all nodes from the root on, and what is held once these are sent. Preallocates for all nodes.
     pub fn load(
         alloc: Global,
         p: &Params,
@@ -80,7 +80,7 @@ impl Holdings {
         Ok((buckets, holdings))
     }
 
-    /// Takes in what was fetched of the path to a leaf: the buckets of just those nodes that aren't held, from the root on.
+    /// Admits what was fetched of the path to a leaf: the buckets of just those nodes that aren't held, from the root on.
     pub fn take_in(&mut self, leaf: u32, taken: &mut Vec<Bucket>)
         requires leaf { leaf < 2 ^ self.old.shape.l }
         requires nodes { nodes_in taken.old.items ≡ filter (λ w. not (is_held self.old w)) (path self.old.shape.l leaf) }
@@ -90,13 +90,12 @@ impl Holdings {
         ensures others { self.new ≡ record self.old { nodes = self.new.nodes } }
         ensures taken { taken.new.items ≡ [] }
     {
-        // tells that there is a place for each node
+        // for the proof: there is a place for each node
         let _ = self.subtree.is_resident(1);
         take_all(&mut self.subtree, taken);
     }
 
-    /// Writes the value of the block that a look-up finds: that of the stash, or else the first on the path to a leaf; zero bytes, where it
-    /// finds none.
+    /// Writes the block's value from the stash, or else from its first copy on the path to a leaf; zero bytes if there is none.
     pub fn found(&self, leaf: u32, block: u32, value: &mut Block)
         requires leaf { leaf < 2 ^ self.now.shape.l }
         requires value { length value.old ≡ self.now.shape.b }
@@ -107,14 +106,14 @@ impl Holdings {
         write_found(found, value);
     }
 
-    /// Makes the value the block's in the stash, and the word its position. It takes no memory.
+    /// Puts the block with this value into the stash, and makes the word its position. It takes no memory.
     pub fn put(&mut self, block: u32, word: u32, value: Block)
         requires block { block < self.old.shape.n }
         requires value { length value ≡ self.old.shape.b }
         ensures contents { contents_in self.new ≡ put (contents_in self.old) block value }
         ensures others { self.new ≡ record self.old { stash = self.new.stash; words = slice_set self.old.words block word } }
     {
-        // tells that the entries are in order
+        // for the proof: the entries are in order
         let _ = self.stash.get(block);
         self.stash.put(block, value);
         self.positions.set(block, word);
@@ -143,28 +142,28 @@ impl Holdings {
         self.subtree.count()
     }
 
-    /// The version of a node's last write-back that was issued, or 0.
+    /// The version of a node's last issued write-back, or 0.
     pub fn last_version(&self, node: u32) -> u32
         ensures { result ≡ version_in self.now node }
     {
         self.subtree.last_version(node)
     }
 
-    /// The entries of a node that is held.
+    /// The entries of a node, if it is held.
     pub fn entries(&self, node: u32) -> Option<&Entries>
         ensures { option_copied result ≡ option_map (λ bucket. bucket.entries) (slice_index_or self.now.nodes node None) }
     {
         self.subtree.entries(node)
     }
 
-    /// What holds of all that is held, as anyone may know it.
+    /// The invariant of what is held, for callers' proofs.
     pub fn forms(&self)
         ensures { AreForms self.now }
     {
         let _first = self.positions.leaf(0);
     }
 
-    /// A write-back with this version was acknowledged, of one node of those written. It leaves, unless it was touched since or a fetch
+    /// The write-back of this version, of this node among others, was acknowledged: the node leaves, unless it was touched since or a fetch
     /// covers it.
     pub fn forget_one(&mut self, version: u32, node: u32)
         ensures held { is_held self.new ≡ without self.old version node (is_held self.old) }
@@ -174,7 +173,7 @@ impl Holdings {
         self.subtree.forget(version, &[node]);
     }
 
-    /// A fetch of the path to a leaf has begun.
+    /// Begins a fetch of the path to a leaf.
     pub fn begin_fetch(&mut self, leaf: u32)
         requires leaf { leaf < 2 ^ self.old.shape.l }
         requires few { AreFew self.old.counts }
@@ -184,7 +183,7 @@ impl Holdings {
         self.subtree.begin_fetch(leaf);
     }
 
-    /// A fetch of the path to a leaf has ended, as the one of number `t` counted from 1.
+    /// Ends a fetch of the path to a leaf, the `t`-th that ends, counted from 1.
     pub fn end_fetch(&mut self, leaf: u32, t: u64)
         requires leaf { leaf < 2 ^ self.old.shape.l }
         requires path { IsPathHeld self.old leaf }
@@ -196,7 +195,7 @@ impl Holdings {
         self.subtree.end_fetch(leaf, t);
     }
 
-    /// Exchanges the entries of these buckets with those of their nodes, all of which are held. Once more, and all is as before.
+    /// Exchanges the entries of these buckets with those of their nodes, all of which are held. Doing it again undoes it.
     pub fn exchange(&mut self, buckets: &mut [Bucket])
         requires rising { IsStrictlyIncreasing (nodes_in buckets.old) }
         requires held { All (λ bucket. is_held self.old bucket.node ≡ true) buckets.old }
@@ -210,7 +209,7 @@ impl Holdings {
         swap_buckets(&mut self.subtree, buckets);
     }
 
-    /// A write-back of these nodes, all of which are held, was issued with this version.
+    /// Records that a write-back of these nodes, all of which are held, was issued with this version.
     pub fn set_versions(&mut self, nodes: &[u32], version: u32)
         requires rising { IsStrictlyIncreasing nodes.now }
         requires held { All (λ node. is_held self.old node ≡ true) nodes.now }

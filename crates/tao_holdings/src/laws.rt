@@ -1,7 +1,7 @@
-//! What holds of every exchange.
+//! A law of exchanges.
 ghost use Rattle.tao_holdings.specs.Laws.{ExchangedBack};
 
-/// Two exchanges, one after the other, leave all as it was.
+/// Exchanging twice leaves all as it was.
 pub fn exchanged_back()
     ensures { ExchangedBack }
 {}

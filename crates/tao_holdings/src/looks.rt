@@ -1,4 +1,4 @@
-//! The look-up of a block's first copy.
+//! Looks up a block's first copy.
 ghost use Rattle.std.specs.Prelude.{◌≡◌, ◌+◌, ◌^◌, ◌<◌, length, replicate, IfSome, unwrap_or};
 ghost use Rattle.std.specs.Option.{option_copied};
 ghost use Rattle.tao_base.specs.Tree.{path};
@@ -64,7 +64,7 @@ fn copy_among(entries: &[Entry], block: u32) -> Option<&Block>
     None
 }
 
-/// Writes what was found, or zero bytes where nothing was.
+/// Writes what was found, or zero bytes if nothing was.
 pub(crate) fn write_found(found: Option<&Block>, value: &mut Block)
     requires { IfSome found (λ block. length block.now ≡ length value.old) }
     ensures value { value.new ≡ unwrap_or (option_copied found.entry) (replicate (length value.old) 0) }

@@ -1,4 +1,4 @@
-//! The entries of some nodes, exchanged with lists or buckets that are given.
+//! Exchanges the entries of nodes with given lists or buckets.
 ghost use Rattle.std.specs.Prelude.{◌≡◌, ℕ, ◌+◌, ◌^◌, ◌<◌, true, [], ◌∷◌, length, map, is_some, All};
 ghost use Rattle.tao_base.specs.Tree.{path, is_on_path};
 ghost use Rattle.std.specs.List.Sorted.{IsStrictlyIncreasing};
@@ -10,7 +10,7 @@ ghost use Rattle.tao_holdings.specs.Lists.{held_in, entries_in, Relists, with_en
 use tao_base::{Bucket, Entries, Params, path_node};
 use tao_subtree::Subtree;
 
-/// Exchanges the lists of the nodes of the path to a leaf, from the root on, with those given.
+/// Exchanges the lists of the path's nodes, from the root on, with those given.
 pub(crate) fn swap_path(p: &Params, subtree: &mut Subtree, leaf: u32, lists: &mut [Entries])
     requires leaf { leaf < 2 ^ p.now.l }
     requires lists { length lists.old ≡ p.now.l + 1 }
@@ -27,7 +27,7 @@ pub(crate) fn swap_path(p: &Params, subtree: &mut Subtree, leaf: u32, lists: &mu
 }
 
 #[tactic(auto, using(crate::proofs::Swapped::swaps_one))]
-/// Exchanges the list of one node with that given.
+/// Exchanges the list of one node with the one given.
 pub(crate) fn swap_one(subtree: &mut Subtree, node: u32, list: &mut Entries)
     requires { is_some (resident_at subtree.old node) ≡ true }
     ensures residents { Relists (node ∷ []) (list.old ∷ []) subtree.old.residents subtree.new.residents }
@@ -35,7 +35,7 @@ pub(crate) fn swap_one(subtree: &mut Subtree, node: u32, list: &mut Entries)
     ensures kept { KeepsRoom subtree.old subtree.new }
     ensures list { list.new ≡ entries_in subtree.old.residents node }
 {
-    // tells that there is a place for each node
+    // for the proof: there is a place for each node
     let _ = subtree.is_resident(node);
     subtree.swap_entries(node, list);
 }

@@ -1,4 +1,4 @@
-//! Buckets that come to the residents.
+//! Admits fetched buckets.
 ghost use Rattle.std.specs.Prelude.{◌≡◌, ◌+◌, ◌≤◌, false, [], All, is_some, slice_set, Some};
 ghost use Rattle.tao_base.specs.Tree.{node_count};
 ghost use Rattle.tao_subtree.specs.Residents.{resident_at, resident_count, KeepsRoom};
@@ -7,7 +7,7 @@ ghost use Rattle.tao_holdings.specs.Lists.{with_taken, AreAway};
 use tao_base::Bucket;
 use tao_subtree::Subtree;
 
-/// Takes all buckets in.
+/// Admits all buckets.
 pub(crate) fn take_all(subtree: &mut Subtree, taken: &mut Vec<Bucket>)
     requires low { All (λ bucket. 1 ≤ bucket.node) taken.old.items }
     requires high { All (λ bucket. bucket.node ≤ node_count subtree.old.shape.l) taken.old.items }
@@ -31,7 +31,7 @@ fn take_one(subtree: &mut Subtree, bucket: Bucket)
     ensures state { subtree.new ≡ record subtree.old { residents = slice_set subtree.old.residents bucket.node (Some bucket); spare = subtree.new.spare } }
     ensures kept { KeepsRoom subtree.old subtree.new }
 {
-    // tells that there is a place for each node
+    // for the proof: there is a place for each node
     let _ = subtree.is_resident(bucket.node);
     subtree.take_in(bucket);
 }

@@ -4,7 +4,7 @@ use crate::Holdings;
 use std::test::Fail;
 use tao_base::{Block, Params};
 
-// the one block lies in the leaf of its word, so nothing is held and a look-up finds no copy
+// the only block lies in the leaf of its word, so nothing is held and a look-up finds no copy
 #[test]
 fn loaded(rt: HostRuntime) -> Result<(), Fail> {
     let alloc = rt.alloc();

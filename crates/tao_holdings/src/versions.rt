@@ -1,4 +1,4 @@
-//! The versions of some residents, changed all at once.
+//! Sets the versions of residents.
 ghost use Rattle.std.specs.Prelude.{◌≡◌, ◌<◌, ℕ, true, cond, nat_eq, is_some, All};
 ghost use Rattle.std.specs.List.Sorted.{IsStrictlyIncreasing};
 ghost use Rattle.tao_subtree.specs.Residents.{resident_at, version_at};
@@ -7,7 +7,7 @@ ghost use Rattle.tao_holdings.specs.Holding.{written_at};
 
 use tao_subtree::Subtree;
 
-/// A write-back of these residents was issued with this version.
+/// Records that a write-back of these residents was issued with this version.
 pub(crate) fn set_all(subtree: &mut Subtree, nodes: &[u32], version: u32)
     requires rising { IsStrictlyIncreasing nodes.now }
     requires held { All (λ node. held_in subtree.old.residents node ≡ true) nodes.now }
@@ -27,7 +27,7 @@ fn set_one(subtree: &mut Subtree, node: u32, version: u32)
     ensures versions { (w : ℕ) → version_at subtree.new w ≡ cond (nat_eq node w) version (version_at subtree.old w) }
     ensures others { subtree.new ≡ record subtree.old { versions = subtree.new.versions } }
 {
-    // tells that there is a place for each node
+    // for the proof: there is a place for each node
     let _ = subtree.is_resident(node);
     subtree.set_version(node, version);
 }
