@@ -1,5 +1,5 @@
 //! The tape of a key.
-ghost use Rattle.std.specs.Prelude.{◌≡◌, ◌+◌, ◌≤◌};
+ghost use Rattle.std.specs.Prelude.{◌≡◌, ◌+◌, ◌≤◌, Some, codes};
 ghost use Rattle.tao_tape.specs.Tapes.{drawn, key_word, key_left};
 
 use crate::tape::Tape;
@@ -60,6 +60,8 @@ impl Tape for KeyTape {
 
 // The key is not shown.
 impl fmt::Debug for KeyTape {
+    ghost debug_output = { λ _. Some (codes "KeyTape { .. }") };
+
     fn fmt<W: fmt::Write>(&self, f: &mut fmt::Formatter<W>) -> fmt::Result {
         f.write_str("KeyTape { .. }")
     }

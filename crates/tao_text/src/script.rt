@@ -1,10 +1,12 @@
 //! What a script says.
+ghost use Rattle.std.specs.Prelude.{Some, codes};
 
+use std::fmt;
 use tao_base::{Entries, Image, Items, Numbers, Op, Params};
 
 /// A store and what is done with it: its parameters, the key of its tape, the tape's words if the text lists them in place of the key's,
 /// the first values of blocks by rising ids, and the steps.
-#[derive(Debug, Drop)]
+#[derive(Drop)]
 pub struct Script {
     pub params: Params,
     /// The line number of `tree`, counted from 1.
@@ -46,4 +48,13 @@ pub enum What {
     Put(u32, Option<u32>),
     /// The acknowledgement of this write-back reaches the proxy.
     Ack(u32),
+}
+
+// The key is not shown.
+impl fmt::Debug for Script {
+    ghost debug_output = { λ _. Some (codes "Script { .. }") };
+
+    fn fmt<W: fmt::Write>(&self, f: &mut fmt::Formatter<W>) -> fmt::Result {
+        f.write_str("Script { .. }")
+    }
 }
