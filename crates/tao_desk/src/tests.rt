@@ -30,3 +30,14 @@ fn pad(rt: HostRuntime) -> Result<(), Fail> {
     assert_eq!(rt; desk.into_history().events().len(), 4);
     Ok(())
 }
+
+#[test]
+fn numbers_of_faults(rt: HostRuntime) {
+    let numbers = [
+        ArriveFault::SessionFull as u8,
+        ArriveFault::NoBlock as u8,
+        ArriveFault::BlockLength as u8,
+        ArriveFault::Memory as u8,
+    ];
+    assert_eq!(rt; numbers, [2, 3, 4, 5]);
+}
