@@ -2,6 +2,7 @@
 use Rattle.std.proofs.Common.{◌≡◌, ◌⊎◌, inl, inr, ℕ, ◌+◌, ◌≤◌, ◌^◌, List, ◌++◌, length, Option, Some, None, Result, Ok, Err, sym, ap, ◌∙◌, subst, arith, length-append}
 use Rattle.std.proofs.lemmas.List.{append-nil}
 use Rattle.std.specs.Io.KnownBytes.{Consumes, IsAtEnd}
+use Rattle.tao_base.specs.Session.{History}
 use Rattle.tao_text.specs.declared.faults.TextFault.{TextFault}
 use Rattle.tao_text.specs.declared.script.Script.{Script}
 use Rattle.tao_text.specs.Texts.{FirstBreak, IsScriptText}
@@ -60,14 +61,47 @@ module _ {S : Type 0} (left : S → Option (List ℕ)) (faults : S → ℕ) (old
   held_is_unread script (held, at, inr (other, line, is, some)) (t, none) =
       some_none line (sym some ∙ ap unbuilt_line (one_script held other script is (taken_is_held script held at t)) ∙ none)
 
-  -- a call whose source held a script that can be played ends with 0, or for want of memory
-  pub ends_played : {K : Type 0} (put : K → Option (List ℕ)) (sunk : K → ℕ) (from to : K) (script : Script) (end : End) (text : List ℕ) (result : ℕ) → HoldsPlayed left old script
-      → PlayEnds left faults old new None end text → Finishes put sunk from to (status_of end) text result → ¬ Rose (faults old) (faults new) → ¬ Rose (sunk from) (sunk to)
-      → (result ≡ 0) ⊎ (result ≡ 8)
-  ends_played put sunk from to script end text result holds ends (inr part) sound dry = absurd (dry part.1.rose)
-  ends_played put sunk from to script Done text result holds ends (inl all) sound dry = inl all.0
-  ends_played put sunk from to script Refused text result holds ends (inl all) sound dry = absurd ends
-  ends_played put sunk from to script (Broken fault) text result holds ends (inl all) sound dry = absurd (held_is_read script holds (inl (fault, ends.0)))
-  ends_played put sunk from to script (Unbuilt line) text result holds ends (inl all) sound dry = absurd (held_is_read script holds (inr (ends.0.0, line, ends.0.1, ends.0.2)))
-  ends_played put sunk from to script SourceFailed text result holds ends (inl all) sound dry = absurd (sound ends.1)
-  ends_played put sunk from to script NoMemory text result holds ends (inl all) sound dry = inr all.0
+  module _ {K : Type 0} (put : K → Option (List ℕ)) (sunk : K → ℕ) (from to : K) (kept : Option History) where
+    -- without a fault a play ends with 0, 3 or 8
+    pub ends_unfailed : (end : End) (text : List ℕ) (result : ℕ) → PlayEnds left faults old new kept end text → Finishes put sunk from to (status_of end) text result
+        → ¬ Rose (faults old) (faults new) → ¬ Rose (sunk from) (sunk to) → (result ≡ 0) ⊎ ((result ≡ 3) ⊎ (result ≡ 8))
+    ends_unfailed end text result ends (inr part) sound dry = absurd (dry part.1.rose)
+    ends_unfailed Done text result ends (inl all) sound dry = inl all.0
+    ends_unfailed Refused text result ends (inl all) sound dry = absurd ends
+    ends_unfailed (Broken fault) text result ends (inl all) sound dry = inr (inl all.0)
+    ends_unfailed (Unbuilt line) text result ends (inl all) sound dry = inr (inl all.0)
+    ends_unfailed SourceFailed text result ends (inl all) sound dry = absurd (sound ends.1)
+    ends_unfailed NoMemory text result ends (inl all) sound dry = inr (inr all.0)
+
+    -- where the source failed, a play ends with 4 or 8
+    pub ends_source : (end : End) (text : List ℕ) (result : ℕ) → PlayEnds left faults old new kept end text → Finishes put sunk from to (status_of end) text result
+        → ¬ (faults new ≡ faults old) → ¬ Rose (sunk from) (sunk to) → (result ≡ 4) ⊎ (result ≡ 8)
+    ends_source end text result ends (inr part) failed dry = absurd (dry part.1.rose)
+    ends_source Done text result ends (inl all) failed dry = absurd (failed ends.1.0.unfailed)
+    ends_source Refused text result ends (inl all) failed dry = absurd ends
+    ends_source (Broken fault) text result ends (inl all) failed dry = absurd (failed ends.0.unfailed)
+    ends_source (Unbuilt line) text result ends (inl all) failed dry = absurd (failed ends.0.1.unfailed)
+    ends_source SourceFailed text result ends (inl all) failed dry = inl all.0
+    ends_source NoMemory text result ends (inl all) failed dry = inr all.0
+
+    -- where the source held no script that can be played, a play ends with 3 or 8
+    pub ends_unplayed : (end : End) (text : List ℕ) (result : ℕ) → HoldsUnplayed left old → PlayEnds left faults old new kept end text → Finishes put sunk from to (status_of end) text result
+        → ¬ Rose (faults old) (faults new) → ¬ Rose (sunk from) (sunk to) → (result ≡ 3) ⊎ (result ≡ 8)
+    ends_unplayed end text result holds ends (inr part) sound dry = absurd (dry part.1.rose)
+    ends_unplayed Done text result holds ends (inl all) sound dry = absurd (held_is_unread ends.0 holds ends.1)
+    ends_unplayed Refused text result holds ends (inl all) sound dry = absurd ends
+    ends_unplayed (Broken fault) text result holds ends (inl all) sound dry = inl all.0
+    ends_unplayed (Unbuilt line) text result holds ends (inl all) sound dry = inl all.0
+    ends_unplayed SourceFailed text result holds ends (inl all) sound dry = absurd (sound ends.1)
+    ends_unplayed NoMemory text result holds ends (inl all) sound dry = inr all.0
+
+    -- where the source held a script that can be played, a play ends with 0 or 8
+    pub ends_played : (script : Script) (end : End) (text : List ℕ) (result : ℕ) → HoldsPlayed left old script → PlayEnds left faults old new kept end text
+        → Finishes put sunk from to (status_of end) text result → ¬ Rose (faults old) (faults new) → ¬ Rose (sunk from) (sunk to) → (result ≡ 0) ⊎ (result ≡ 8)
+    ends_played script end text result holds ends (inr part) sound dry = absurd (dry part.1.rose)
+    ends_played script Done text result holds ends (inl all) sound dry = inl all.0
+    ends_played script Refused text result holds ends (inl all) sound dry = absurd ends
+    ends_played script (Broken fault) text result holds ends (inl all) sound dry = absurd (held_is_read script holds (inl (fault, ends.0)))
+    ends_played script (Unbuilt line) text result holds ends (inl all) sound dry = absurd (held_is_read script holds (inr (ends.0.0, line, ends.0.1, ends.0.2)))
+    ends_played script SourceFailed text result holds ends (inl all) sound dry = absurd (sound ends.1)
+    ends_played script NoMemory text result holds ends (inl all) sound dry = inr all.0

@@ -1,7 +1,11 @@
 pub mod Breaks
-pub mod Fronts
+pub mod Causes
+pub mod Ends
 pub mod Inputs
-pub mod Plays
+pub mod Interrupts
+pub mod Kept
+pub mod Pieces
+pub mod Steps
 pub mod Telling
 pub mod Transfers
 pub mod Whole

@@ -12,13 +12,12 @@ use Rattle.tao_trace.proofs.WholeLines.{more_lines, each_lines}
 use Rattle.taostore.specs.declared.faults.StreamFault.{StreamFault}
 use Rattle.taostore.specs.declared.faults.StreamFault.TheVariants.{Failed, NoMemory}
 use Rattle.taostore.specs.declared.output.End.TheVariants as ends
-use Rattle.taostore.specs.declared.output.End.TheVariants.{Done, Refused, Broken, Unbuilt, SourceFailed}
-use Rattle.taostore.specs.Endings.{end_line, EndsAs, SessionEnds, ScriptEnds, final_array}
+use Rattle.taostore.specs.declared.output.End.TheVariants.{Done}
+use Rattle.taostore.specs.Endings.{end_line, EndsAs, SessionEnds}
 use Rattle.taostore.specs.Output.{PutsAll, PutsPart, Finishes, Tells, TellsLines, session_lines}
-use Rattle.taostore.specs.Playing.{IsPlayed}
 use Rattle.tao_base.specs.Session.{History}
-use Rattle.tao_text.specs.declared.script.Script.{Script}
 use Rattle.tao_trace.proofs.WholeText.{text_is_printed}
+use Rattle.taostore.proofs.Ends.{ends_with}
 
 -- the texts of numbers in order
 abbrev pub texts : (ℕ → List ℕ) → ℕ → List ℕ
@@ -61,12 +60,8 @@ module _ {K : Type 0} (put : K → Option (List ℕ)) (faults : K → ℕ) where
         rose = subst (λ n. Rose n (faults c)) one.unfailed p.rose;
       }
 
-  -- all of the text waits
-  pub tells_waiting : (a : K) (text : List ℕ) → Tells put faults a a text text
-  tells_waiting a text = record { sent = []; puts = puts_none a; whole = refl }
-
-  joined : (sent more w0 w1 w2 done lines : List ℕ) → sent ++ w1 ≡ w0 ++ done → more ++ w2 ≡ w1 ++ lines → (sent ++ more) ++ w2 ≡ w0 ++ (done ++ lines)
-  joined sent more w0 w1 w2 done lines one two = append_assoc sent more w2
+  sent_whole : (sent more w0 w1 w2 done lines : List ℕ) → sent ++ w1 ≡ w0 ++ done → more ++ w2 ≡ w1 ++ lines → (sent ++ more) ++ w2 ≡ w0 ++ (done ++ lines)
+  sent_whole sent more w0 w1 w2 done lines one two = append_assoc sent more w2
       ∙ ap (λ (l : List ℕ). sent ++ l) two
       ∙ sym (append_assoc sent w1 lines)
       ∙ ap (λ (l : List ℕ). l ++ lines) one
@@ -77,7 +72,7 @@ module _ {K : Type 0} (put : K → Option (List ℕ)) (faults : K → ℕ) where
   tells_then a b c w0 w1 w2 done lines one two = record {
     sent = one.sent ++ two.sent;
     puts = puts_then a b c one.sent two.sent one.puts two.puts;
-    whole = joined one.sent two.sent w0 w1 w2 done lines one.whole two.whole;
+    whole = sent_whole one.sent two.sent w0 w1 w2 done lines one.whole two.whole;
   }
 
   pub fails_then : (a b c : K) (w0 w1 done lines : List ℕ) → Tells put faults a b (w0 ++ done) w1 → PutsPart put faults b c (w1 ++ lines)
@@ -159,40 +154,22 @@ module _ {K : Type 0} (put : K → Option (List ℕ)) (faults : K → ℕ) where
   -- how a session's text ends, by how its lines were told; nothing waited before
   pub ends_done : (a b c : K) (waits : List ℕ) (h : History) (blocks : List (List ℕ)) (result : ℕ) → Tells put faults a b ([] ++ session_lines h blocks) waits
       → Finishes put faults b c 0 (waits ++ end_line Done) result → EndsAs put faults a c (SessionEnds h blocks) result
-  ends_done a b c waits h blocks result told finished = (
-    Done,
-    session_lines h blocks ++ end_line Done,
-    sym (text_is_printed h (Some blocks) (end_line Done)),
-    finishes_told put faults a b c (session_lines h blocks) waits (end_line Done) 0 result told finished,
-  )
+  ends_done a b c waits h blocks result told finished =
+      ends_with put faults a c (SessionEnds h blocks) Done (session_lines h blocks ++ end_line Done) result
+      (sym (text_is_printed h (Some blocks) (end_line Done)))
+      (finishes_told put faults a b c (session_lines h blocks) waits (end_line Done) 0 result told finished)
 
   pub ends_short : (a b c : K) (waited waits : List ℕ) (h : History) (blocks : List (List ℕ)) (result : ℕ) → waited ≡ []
       → TellsLines put faults a b {T = Unit {0}} waited waits (session_lines h blocks) (Err NoMemory)
       → Finishes put faults b c 8 (waits ++ end_line ends.NoMemory) result → EndsAs put faults a c (SessionEnds h blocks) result
-  ends_short a b c waited waits h blocks result none told finished = (
-    ends.NoMemory,
-    told.0 ++ end_line ends.NoMemory,
-    (told.0, subst (AreFirstLines told.0) (sym (text_is_printed h (Some blocks) [] ∙ append-nil (session_lines h blocks))) told.1, refl),
-    finishes_told put faults a b c told.0 waits (end_line ends.NoMemory) 8 result (subst (λ (l : List ℕ). Tells put faults a b (l ++ told.0) waits) none told.2) finished,
-  )
+  ends_short a b c waited waits h blocks result none told finished =
+      ends_with put faults a c (SessionEnds h blocks) ends.NoMemory (told.0 ++ end_line ends.NoMemory) result
+      (told.0, subst (AreFirstLines told.0) (sym (text_is_printed h (Some blocks) [] ∙ append-nil (session_lines h blocks))) told.1, refl)
+      (finishes_told put faults a b c told.0 waits (end_line ends.NoMemory) 8 result (subst (λ (l : List ℕ). Tells put faults a b (l ++ told.0) waits) none told.2) finished)
 
   pub ends_failed : (a b : K) (waited waits : List ℕ) (h : History) (blocks : List (List ℕ)) → waited ≡ []
       → TellsLines put faults a b {T = Unit {0}} waited waits (session_lines h blocks) (Err Failed) → EndsAs put faults a b (SessionEnds h blocks) 5
-  ends_failed a b waited waits h blocks none told = (
-    Done,
-    session_lines h blocks ++ end_line Done,
-    sym (text_is_printed h (Some blocks) (end_line Done)),
-    inr (refl, part_of_more put faults a b (session_lines h blocks) (end_line Done) (subst (λ (l : List ℕ). PutsPart put faults a b (l ++ session_lines h blocks)) none told)),
-  )
-
-  -- a session of a script ends as the script does, when its record is kept
-  pub ends_script : (a b : K) (script : Script) (session : History) (kept : Option History) (result : ℕ) → kept ≡ Some session → IsPlayed script script.steps session
-      → EndsAs put faults a b (SessionEnds session (final_array session)) result → EndsAs put faults a b (ScriptEnds script kept) result
-  ends_script a b script session kept result keeps played (Done, text, told, finished) =
-      (Done, text, record { session = session; keeps = keeps; played = played; told = told }, finished)
-  ends_script a b script session kept result keeps played (Refused, text, told, finished) = absurd told
-  ends_script a b script session kept result keeps played (Broken fault, text, told, finished) = absurd told
-  ends_script a b script session kept result keeps played (Unbuilt line, text, told, finished) = absurd told
-  ends_script a b script session kept result keeps played (SourceFailed, text, told, finished) = absurd told
-  ends_script a b script session kept result keeps played (ends.NoMemory, text, told, finished) =
-      (ends.NoMemory, text, inr (record { session = session; keeps = keeps; played = played; told = told }), finished)
+  ends_failed a b waited waits h blocks none told =
+      ends_with put faults a b (SessionEnds h blocks) Done (session_lines h blocks ++ end_line Done) 5
+      (sym (text_is_printed h (Some blocks) (end_line Done)))
+      (inr (refl, part_of_more put faults a b (session_lines h blocks) (end_line Done) (subst (λ (l : List ℕ). PutsPart put faults a b (l ++ session_lines h blocks)) none told)))

@@ -21,10 +21,6 @@ use Rattle.tao_tape.specs.Tapes.{key_word}
 use Rattle.taostore.specs.Playing.{tape_of, words_of}
 use Rattle.taostore.specs.Unbuilt.{IsPlayable, is_one, is_whole, unbuilt_step, whole_steps}
 
-twice_not : (b : Bool) → not (not b) ≡ true → IsTrue b
-twice_not true h = refl
-twice_not false h = cc h
-
 prefix_of_all : (steps : List Step) → length steps ≤ prefix_len (λ (step : Step). not (not (is_whole step.what))) steps → AllByRecursion (λ step. IsTrue (is_whole step.what)) steps
 prefix_of_all [] long = tt
 prefix_of_all (step ∷ steps) long =

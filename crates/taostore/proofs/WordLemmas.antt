@@ -1,7 +1,9 @@
 -- One word, spelled.
-use Rattle.std.proofs.Common.{◌≡◌, ◌<◌, ◌≤◌, ℕ, List, [], ◌∷◌, Bool, length, map, get_or, IsTrue, string_bytes, Global, String, sym, ap, ◌∙◌, arith}
+use Rattle.std.proofs.Common.{◌≡◌, ◌⊎◌, inl, inr, ◌<◌, ◌≤◌, ℕ, List, [], ◌∷◌, Bool, true, false, codes, length, map, get_or, IsTrue, string_bytes, Global, String, sym, ap, ◌∙◌, arith}
 use Rattle.std.specs.Str.{bytes_eq}
+use Rattle.std.proofs.lemmas.Bool.{cases_Bool}
 use Rattle.std.proofs.lemmas.Slice.Eq.{bytes_eq-Decides}
+use Rattle.taostore.specs.Words.{AskToPlay, AreRefused}
 
 -- the spelling of a list of one word
 one_word : (words : List (String Global)) (word : String Global) → 1 ≤ length words → length words < 2 → word ≡ get_or words 0 word
@@ -18,3 +20,14 @@ is_one_word words word spelled text same some one item bytes test =
     let decides = bytes_eq-Decides spelled text in
     let list : map string_bytes words ≡ spelled ∷ [] = one_word words word some one item ∙ ap (λ x. x ∷ []) (sym bytes) in
     (λ yes. list ∙ ap (λ x. x ∷ []) (decides.0 (sym test ∙ yes)), λ asked. test ∙ decides.1 (cc))
+
+-- words ask to play or are refused
+pub asked_or_refused : (words : List (List ℕ)) → AskToPlay words ⊎ AreRefused words
+asked_or_refused [] = inr (λ asked. cc asked)
+asked_or_refused (word ∷ []) =
+    let decides = bytes_eq-Decides word (codes "play") in
+    elim (cases_Bool (bytes_eq word (codes "play"))) [
+      | inl same ↦ inl (ap (λ w. w ∷ []) (decides.0 same))
+      | inr other ↦ inr (λ asked. let is : word ≡ codes "play" = cc asked in cc (sym other ∙ decides.1 is))
+    ]
+asked_or_refused (word ∷ other ∷ words) = inr (λ asked. cc asked)

@@ -1,8 +1,9 @@
 -- How the commands end: each with a last line and a status, and with what has then become of the source.
-use Rattle.std.specs.Prelude.{◌≡◌, ◌⊎◌, ℕ, ◌+◌, ◌^◌, List, [], ◌∷◌, ◌++◌, take, reverse, codes, decimal, Option, Some, None, IfSome}
+use Rattle.std.specs.Prelude.{◌≡◌, ◌⊎◌, ℕ, ◌+◌, ◌^◌, List, [], ◌∷◌, ◌++◌, take, reverse, codes, decimal, Option, Some, None, IfSome, ⊤}
 use Rattle.std.specs.Option.{option_map}
-use Rattle.std.specs.Io.KnownBytes.{Consumes, IsAtEnd}
+use Rattle.std.specs.Io.KnownBytes.{Consumes, IsAtEnd, Keeps}
 use Rattle.tao_base.specs.Session.{History}
+use Rattle.tao_model.specs.Lawful.{FollowsLawfully}
 use Rattle.tao_model.specs.Replies.{array_now}
 use Rattle.tao_model.specs.Transcript.{transcript}
 use Rattle.tao_record.specs.State.{RecordState}
@@ -16,8 +17,10 @@ use Rattle.tao_base.specs.Causes.{Rose}
 use Rattle.taostore.specs.declared.output.End.{End}
 use Rattle.taostore.specs.declared.output.End.TheVariants.{Done, Refused, Broken, Unbuilt, SourceFailed, NoMemory}
 use Rattle.taostore.specs.Input.{TakesFront, TakesInput}
-use Rattle.taostore.specs.Output.{Finishes}
+use Rattle.taostore.specs.Output.{PutsAll, PutsPart}
 use Rattle.taostore.specs.Playing.{IsPlayed}
+use Rattle.taostore.specs.declared.session.Played.{Played}
+use Rattle.taostore.specs.declared.session.Played.TheVariants.{Whole, Part, Nothing}
 use Rattle.taostore.specs.Unbuilt.{unbuilt_line}
 
 -- the exit status
@@ -31,7 +34,7 @@ status_of NoMemory = 8
 
 -- the last line of a script that isn't played: the line at which that shows, and why
 abbrev pub break_line : ℕ → List ℕ → List ℕ
-break_line line name = (codes "end 3 " ++ decimal line) ++ (codes " " ++ (name ++ 10 ∷ []))
+break_line line name = codes "end 3 " ++ (decimal line ++ (codes " " ++ (name ++ 10 ∷ [])))
 
 -- the last line
 abbrev pub end_line : End → List ℕ
@@ -41,6 +44,23 @@ end_line (Broken fault) = break_line fault.line (kind_name fault.kind)
 end_line (Unbuilt line) = break_line line (codes "Unbuilt")
 end_line SourceFailed = codes "end 4" ++ 10 ∷ []
 end_line NoMemory = codes "end 8" ++ 10 ∷ []
+
+-- How a command ends: a field for each status, with its cause and what was written. `Cause end text` is the command's own: why it may end so,
+-- what it has then taken and kept, and the text that it writes.
+module _ {K : Type 0} (put : K → Option (List ℕ)) (faults : K → ℕ) (old new : K) (Cause : End → List ℕ → Type 0) where
+  -- there is a cause to end so, and the text was written whole
+  abbrev pub Writes : End → Type 0
+  Writes end = (text : List ℕ) × Cause end text × PutsAll put faults old new text
+
+  pub record EndsAs (status : ℕ) : Type 0 where
+    pub done : status ≡ 0 → Writes Done
+    pub refused : status ≡ 2 → Writes Refused
+    pub unplayed : status ≡ 3 → ((fault : TextFault) × Writes (Broken fault)) ⊎ ((line : ℕ) × Writes (Unbuilt line))
+    pub source_failed : status ≡ 4 → Writes SourceFailed
+    -- of the text of one of the other ends only a part was written
+    pub sink_failed : status ≡ 5 → (end : End) × (text : List ℕ) × Cause end text × PutsPart put faults old new text
+    pub no_memory : status ≡ 8 → Writes NoMemory
+    pub known : (status ≡ 0) ⊎ ((status ≡ 2) ⊎ ((status ≡ 3) ⊎ ((status ≡ 4) ⊎ ((status ≡ 5) ⊎ (status ≡ 8)))))
 
 -- the end of a call whose text wasn't read
 abbrev pub end_of : TextKind → TextFault → End
@@ -54,15 +74,6 @@ end_of TextKind.Order fault = Broken fault
 end_of TextKind.TapeShort fault = Broken fault
 end_of TextKind.TooLong fault = Broken fault
 end_of TextKind.Memory fault = NoMemory
-
--- the ends of a call with refused words, each with its text
-abbrev pub RefusedEnds : End → List ℕ → Type 0
-RefusedEnds Done text = ⊥
-RefusedEnds Refused text = text ≡ end_line Refused
-RefusedEnds (Broken fault) text = ⊥
-RefusedEnds (Unbuilt line) text = ⊥
-RefusedEnds SourceFailed text = ⊥
-RefusedEnds NoMemory text = text ≡ end_line NoMemory
 
 -- what is kept of the session, if it was opened
 abbrev pub kept_history : Option RecordState → Option History
@@ -80,6 +91,18 @@ SessionEnds h blocks NoMemory text = (lines : List ℕ) × AreFirstLines lines (
 -- the array after all arrivals of a session
 abbrev pub final_array : History → List (List ℕ)
 final_array session = array_now session.opening (reverse session.events)
+
+-- what playing came to was kept, and its text ends so
+abbrev pub PlayedEnds : Played → Option History → End → List ℕ → Type 0
+PlayedEnds (Whole session blocks) kept end text = (kept ≡ Some session.history) × SessionEnds session.history blocks end text
+PlayedEnds (Part session) kept end text = (kept ≡ Some session.history) × (end ≡ NoMemory) × (text ≡ end_line NoMemory)
+PlayedEnds Nothing kept end text = (kept ≡ None) × (end ≡ NoMemory) × (text ≡ end_line NoMemory)
+
+-- a session that was played to its end went on lawfully
+abbrev pub IsLawfullyPlayed : Played → Type 0
+IsLawfullyPlayed (Whole session blocks) = FollowsLawfully session.history.opening (reverse session.history.events)
+IsLawfullyPlayed (Part session) = ⊤
+IsLawfullyPlayed Nothing = ⊤
 
 -- all was played: the record is kept, and its text ends so
 pub record KeepsAll (script : Script) (kept : Option History) (end : End) (text : List ℕ) : Type 0 where
@@ -126,7 +149,15 @@ module _ {S : Type 0} (left : S → Option (List ℕ)) (faults : S → ℕ) (old
   abbrev pub TakesPlayed : Script → Type 0
   TakesPlayed script = TakesScript script × (unbuilt_line script ≡ None)
 
-  -- the ends of a play, each with what it has taken and kept and with its text; it ends with 4 only where the source failed
+  -- refused words are told, and nothing is taken or kept
+  pub record RefusedEnds (kept : Option History) (end : End) (text : List ℕ) : Type 0 where
+    pub refusal : end ≡ Refused
+    pub untouched : Keeps (left old) (left new)
+    pub unfailed : faults new ≡ faults old
+    pub none : kept ≡ None
+    pub told : text ≡ end_line Refused
+
+  -- why a play ends so: what it has taken and kept, and its text
   abbrev pub PlayEnds : Option History → End → List ℕ → Type 0
   PlayEnds kept Done text = (script : Script) × TakesPlayed script × ScriptEnds script kept Done text
   PlayEnds kept Refused text = ⊥
@@ -143,8 +174,3 @@ HoldsPlayed left source script = (bytes : List ℕ) × (left source ≡ Some byt
 abbrev pub HoldsUnplayed : {S : Type 0} → (S → Option (List ℕ)) → S → Type 0
 HoldsUnplayed left source = (bytes : List ℕ) × (left source ≡ Some bytes)
     × (((fault : TextFault) × FirstBreak bytes fault) ⊎ ((script : Script) × (line : ℕ) × IsScriptText bytes script × (unbuilt_line script ≡ Some line)))
-
--- the call has ended in one of these ways, or was about to when its sink failed
-abbrev pub EndsAs : {K : Type 0} → (K → Option (List ℕ)) → (K → ℕ) → K → K → (End → List ℕ → Type 0) → ℕ → Type 0
-EndsAs put faults old new Ends result =
-    (end : End) × (text : List ℕ) × Ends end text × Finishes put faults old new (status_of end) text result

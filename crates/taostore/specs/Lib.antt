@@ -1,5 +1,6 @@
 pub mod Endings
 pub mod Input
+pub mod Laws
 pub mod Output
 pub mod Playing
 pub mod Unbuilt

@@ -1,5 +1,6 @@
 -- What a call has given to its sink, which is seen by the bytes that were put and by its count of faults. It may fail at any write.
-use Rattle.std.specs.Prelude.{◌≡◌, ◌⊎◌, ℕ, ◌<◌, List, ◌++◌, length, take, Option, Some, Result, Ok, Err}
+use Rattle.std.specs.Prelude.{◌≡◌, ◌⊎◌, ℕ, ◌<◌, List, ◌++◌, length, take, flat_map, Option, Some, Result, Ok, Err}
+use Rattle.std.specs.Borrow.{Bor}
 use Rattle.std.specs.Io.KnownBytes.{Appends}
 use Rattle.tao_base.specs.Causes.{Rose}
 use Rattle.tao_base.specs.Session.{History}
@@ -13,13 +14,17 @@ use Rattle.taostore.specs.declared.faults.StreamFault.TheVariants.{Failed, NoMem
 abbrev pub session_lines : History → List (List ℕ) → List ℕ
 session_lines h blocks = (opening_lines h.opening ++ lines_before h (length h.events)) ++ closing_lines (Some blocks)
 
+-- the bytes of the pieces, one after another
+abbrev pub joined : List (Bor (List ℕ)) → List ℕ
+joined pieces = flat_map (λ piece. piece.now) pieces
+
 module _ {K : Type 0} (put : K → Option (List ℕ)) (faults : K → ℕ) (old new : K) where
   -- the whole text was put, and no write failed
   pub record PutsAll (text : List ℕ) : Type 0 where
     pub whole : Appends (put old) (put new) text
     pub unfailed : faults new ≡ faults old
 
-  -- a write failed, and of the text only a part at its front was put
+  -- a write failed, and of the text only a prefix was put
   pub record PutsPart (text : List ℕ) : Type 0 where
     pub part : ℕ
     pub short : part < length text

@@ -9,8 +9,8 @@ use Rattle.tao_text.specs.declared.script.What.{What}
 use Rattle.tao_text.specs.declared.script.What.TheVariants.{Do, A, Read, Done, Put, Ack}
 use Rattle.tao_tape.specs.Tapes.{key_word}
 use Rattle.tao_model.specs.Replies.{array_now}
-use Rattle.taostore.specs.declared.playing.Played.{Played}
-use Rattle.taostore.specs.declared.playing.Played.TheVariants.{Whole, Part, Nothing}
+use Rattle.taostore.specs.declared.session.Played.{Played}
+use Rattle.taostore.specs.declared.session.Played.TheVariants.{Whole, Part, Nothing}
 use Rattle.tao_desk.specs.Whole.{started, arrivals_of, PlaysOne, IsSound}
 
 -- blocks with a load's value in place of the block that it names; as they were where there is no such block
@@ -59,7 +59,13 @@ PlaysScript script (Whole session blocks) = IsPlayed script script.steps session
 PlaysScript script (Part session) = (count : ℕ) × IsPlayed script (take count script.steps) session.history
 PlaysScript script Nothing = ⊤
 
--- a session that ends here with the final array, or for want of memory without it
+-- a session that ends here, before its end
+abbrev pub IsPart : History → Played → Type 0
+IsPart h (Whole session blocks) = ⊥
+IsPart h (Part session) = session.history ≡ h
+IsPart h Nothing = ⊥
+
+-- a session that ends here with the final array, or without it where memory runs out
 abbrev pub Closes : History → Played → Type 0
 Closes h (Whole session blocks) = (session.history ≡ h) × (blocks ≡ array_now h.opening (reverse h.events))
 Closes h (Part session) = session.history ≡ h

@@ -3,7 +3,7 @@ ghost use Rattle.std.specs.Prelude.{◌≡◌, ◌++◌, OnOk, OnErr};
 ghost use Rattle.taostore.specs.Output.{Finishes, PutsAll, PutsPart};
 ghost use Rattle.taostore.specs.Endings.{break_line, end_line, status_of};
 
-use crate::writing::{put_all, put_five};
+use crate::writing::{put_all, put_pieces};
 use itoa::Buffer;
 use tao_base::{Failed, Sink};
 use tao_text::TextFault;
@@ -69,7 +69,7 @@ fn put_text_and_end<K: Sink>(sink: &mut K, text: &[u8], end: End) -> Result<(), 
     put_end(sink, end)
 }
 
-// The last line of the output, with its end. It takes no memory.
+// The last line of the output.
 fn put_end<K: Sink>(sink: &mut K, end: End) -> Result<(), Failed>
     ensures ok { OnOk result (PutsAll K.put K.faults sink.old sink.new (end_line end)) }
     ensures err { OnErr result (PutsPart K.put K.faults sink.old sink.new (end_line end)) }
@@ -91,5 +91,5 @@ fn put_break<K: Sink>(sink: &mut K, line: u32, name: &str) -> Result<(), Failed>
 {
     let mut digits = Buffer::new();
     let number = digits.format(line).as_bytes();
-    put_five(sink, b"end 3 ", number, b" ", name.as_bytes(), b"\n")
+    put_pieces(sink, &[b"end 3 ", number, b" ", name.as_bytes(), b"\n"])
 }

@@ -1,6 +1,7 @@
 //! Standard input as a source, and standard output as a sink. They tell no bytes, and count their faults.
 ghost use Rattle.std.specs.Prelude.{◌≡◌, ◌<◌, ◌≤◌, None, IfOk, length};
 ghost use Rattle.std.specs.Io.{ReadsAtMost};
+ghost use Rattle.std.specs.Io.KnownBytes.{ReadConsumes, WriteAppends};
 ghost use Rattle.tao_base.specs.Causes.{TakesSome};
 ghost use Rattle.tao_base.specs.Memory.{no_half};
 
@@ -42,9 +43,11 @@ impl Source for StdSource {
     }
 }
 
+#[tactic(auto, using(crate::proofs::Interrupts::kept_consumes))]
 /// One read, made again where a signal interrupted it.
 pub fn read_uninterrupted<R: Read>(reader: &mut R, room: &mut [u8]) -> Result<usize, Failed>
-    ensures { ReadsAtMost result room.new }
+    ensures bound { ReadsAtMost result room.new }
+    ensures bytes { ReadConsumes (R.remaining reader.old) (R.remaining reader.new) result room.new }
 {
     for _ in 0..TRIES {
         match reader.read(room) {
@@ -88,9 +91,11 @@ impl Sink for StdSink {
     }
 }
 
+#[tactic(auto, using(crate::proofs::Interrupts::kept_appends, crate::proofs::Interrupts::empty_keeps))]
 /// One write, made again where a signal interrupted it. One that takes no byte has failed.
 pub fn write_uninterrupted<W: Write>(writer: &mut W, bytes: &[u8]) -> Result<usize, Failed>
-    ensures { TakesSome result (length bytes.now) }
+    ensures count { TakesSome result (length bytes.now) }
+    ensures bytes { WriteAppends (W.contents writer.old) (W.contents writer.new) result bytes.now }
 {
     for _ in 0..TRIES {
         match writer.write(bytes) {

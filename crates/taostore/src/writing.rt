@@ -1,13 +1,13 @@
 //! Writing bytes whole, and text piece by piece.
-ghost use Rattle.std.specs.Prelude.{◌≡◌, ◌++◌, [], OnOk, OnErr};
-ghost use Rattle.taostore.specs.Output.{PutsAll, PutsPart, Tells};
+ghost use Rattle.std.specs.Prelude.{OnOk, OnErr};
+ghost use Rattle.taostore.specs.Output.{PutsAll, PutsPart, Tells, joined};
 
 use tao_base::{Failed, Image, Sink};
 
 /// How much text may wait before it is written.
 const MAX_WAITING: usize = 1 << 16;
 
-/// Writes all bytes, however few of them the sink takes at a time. Nothing is written after a write that failed.
+/// Writes all bytes, however few of them the sink takes at a time. On Err a write has failed, and only a prefix of them was written.
 pub fn put_all<K: Sink>(sink: &mut K, bytes: &[u8]) -> Result<(), Failed>
     ensures ok { OnOk result (PutsAll K.put K.faults sink.old sink.new bytes.now) }
     ensures err { OnErr result (PutsPart K.put K.faults sink.old sink.new bytes.now) }
@@ -19,40 +19,15 @@ pub fn put_all<K: Sink>(sink: &mut K, bytes: &[u8]) -> Result<(), Failed>
     Ok(())
 }
 
-/// Writes one text and then another.
-#[tactic(auto, using(crate::proofs::Telling::puts_then, crate::proofs::Telling::part_of_more, crate::proofs::Telling::part_then))]
-pub fn put_both<K: Sink>(sink: &mut K, first: &[u8], second: &[u8]) -> Result<(), Failed>
-    ensures ok { OnOk result (PutsAll K.put K.faults sink.old sink.new (first.now ++ second.now)) }
-    ensures err { OnErr result (PutsPart K.put K.faults sink.old sink.new (first.now ++ second.now)) }
+/// Writes the pieces one after another.
+pub fn put_pieces<K: Sink>(sink: &mut K, pieces: &[&[u8]]) -> Result<(), Failed>
+    ensures ok { OnOk result (PutsAll K.put K.faults sink.old sink.new (joined pieces.now)) }
+    ensures err { OnErr result (PutsPart K.put K.faults sink.old sink.new (joined pieces.now)) }
 {
-    put_all(sink, first)?;
-    put_all(sink, second)
-}
-
-/// Writes five texts.
-#[tactic(auto, using(crate::proofs::Telling::puts_then, crate::proofs::Telling::part_of_more, crate::proofs::Telling::part_then))]
-pub fn put_five<K: Sink>(
-    sink: &mut K,
-    first: &[u8],
-    second: &[u8],
-    third: &[u8],
-    fourth: &[u8],
-    fifth: &[u8],
-) -> Result<(), Failed>
-    ensures ok { OnOk result (PutsAll K.put K.faults sink.old sink.new ((first.now ++ second.now) ++ (third.now ++ (fourth.now ++ fifth.now)))) }
-    ensures err { OnErr result (PutsPart K.put K.faults sink.old sink.new ((first.now ++ second.now) ++ (third.now ++ (fourth.now ++ fifth.now)))) }
-{
-    put_both(sink, first, second)?;
-    put_three(sink, third, fourth, fifth)
-}
-
-#[tactic(auto, using(crate::proofs::Telling::puts_then, crate::proofs::Telling::part_of_more, crate::proofs::Telling::part_then))]
-fn put_three<K: Sink>(sink: &mut K, first: &[u8], second: &[u8], third: &[u8]) -> Result<(), Failed>
-    ensures ok { OnOk result (PutsAll K.put K.faults sink.old sink.new (first.now ++ (second.now ++ third.now))) }
-    ensures err { OnErr result (PutsPart K.put K.faults sink.old sink.new (first.now ++ (second.now ++ third.now))) }
-{
-    put_all(sink, first)?;
-    put_both(sink, second, third)
+    for piece in pieces {
+        put_all(sink, piece)?;
+    }
+    Ok(())
 }
 
 /// Writes the text that waits, where it has become long.

@@ -6,7 +6,7 @@ ghost use Rattle.tao_model.specs.Replies.{array_now};
 ghost use Rattle.tao_tape.specs.Tapes.{key_word};
 ghost use Rattle.tao_text.specs.Texts.{IsScript, IsEntryOf, IsStepOf};
 ghost use Rattle.tao_desk.specs.Whole.{words_left, arrivals_of, started, IsSound};
-ghost use Rattle.taostore.specs.Playing.{first_blocks, put_load, tape_of, words_of, PlaysStep, PlaysSteps, PlaysScript, Closes};
+ghost use Rattle.taostore.specs.Playing.{first_blocks, put_load, tape_of, words_of, PlaysStep, PlaysSteps, PlaysScript, Closes, IsPart};
 ghost use Rattle.taostore.specs.Unbuilt.{IsPlayable, is_whole};
 
 use std::alloc::Global;
@@ -28,7 +28,7 @@ pub enum Played {
 }
 
 // One step. It changes nothing where memory runs out.
-fn play_step(alloc: Global, desk: &mut Desk, step: &Step) -> Result<(), NoMemory>
+fn do_step(alloc: Global, desk: &mut Desk, step: &Step) -> Result<(), NoMemory>
     requires step { IsStepOf desk.old.history.opening.shape step.now.what }
     requires whole { IsTrue (is_whole step.now.what) }
     requires word { 0 < words_left desk.old }
@@ -103,7 +103,7 @@ fn zero_block(alloc: Global, b: u32) -> Result<Block, NoMemory>
 }
 
 // The steps one after another, until memory runs out.
-fn play_steps(alloc: Global, desk: &mut Desk, steps: &[Step]) -> Result<(), NoMemory>
+fn play_all(alloc: Global, desk: &mut Desk, steps: &[Step]) -> Result<(), NoMemory>
     requires steps { All (λ step. IsStepOf desk.old.history.opening.shape step.what) steps.now }
     requires whole { All (λ step. IsTrue (is_whole step.what)) steps.now }
     requires words { length steps.now ≤ words_left desk.old }
@@ -114,7 +114,7 @@ fn play_steps(alloc: Global, desk: &mut Desk, steps: &[Step]) -> Result<(), NoMe
     ensures sound { IsSound desk.new.history }
 {
     for step in steps {
-        play_step(alloc, desk, step)?;
+        do_step(alloc, desk, step)?;
     }
     Ok(())
 }
@@ -133,6 +133,18 @@ fn open(alloc: Global, p: Params, tape: Numbers, loads: &[Entry]) -> Result<Desk
     Desk::start(alloc, p, tape, blocks)
 }
 
+// The record, with the final array where all was played.
+fn stop(alloc: Global, desk: Desk, played: Result<(), NoMemory>) -> Played
+    requires { IsSound desk.history }
+    ensures ok { OnOk played (Closes desk.history result) }
+    ensures err { OnErr played (IsPart desk.history result) }
+{
+    match played {
+        Ok(()) => close(alloc, desk),
+        Err(NoMemory) => Played::Part(desk.into_history()),
+    }
+}
+
 // The record and the final array.
 fn close(alloc: Global, desk: Desk) -> Played
     requires { IsSound desk.history }
@@ -145,7 +157,7 @@ fn close(alloc: Global, desk: Desk) -> Played
 }
 
 /// Plays all steps of a script, or as far as memory lasts.
-pub fn play(alloc: Global, script: Script) -> Played
+pub fn session_of(alloc: Global, script: Script) -> Played
     requires script { IsScript script }
     requires playable { IsPlayable script }
     ensures { PlaysScript script result }
@@ -153,10 +165,8 @@ pub fn play(alloc: Global, script: Script) -> Played
     let Ok((mut desk, steps)) = open_script(alloc, script) else {
         return Played::Nothing;
     };
-    match play_steps(alloc, &mut desk, steps.as_slice()) {
-        Ok(()) => close(alloc, desk),
-        Err(NoMemory) => Played::Part(desk.into_history()),
-    }
+    let played = play_all(alloc, &mut desk, steps.as_slice());
+    stop(alloc, desk, played)
 }
 
 #[tactic(auto, using(crate::proofs::Whole::tape_enough))]

@@ -1,6 +1,6 @@
 use Rattle.std.proofs.Common.{◌≡◌, All, length, take, replicate, fold}
 use Rattle.taostore.specs.Playing.{put_load}
-use Rattle.taostore.proofs.playing.first_values.Given as goal
+use Rattle.taostore.proofs.session.first_values.Given as goal
 
 abbrev pub invariant-loop-entry : goal.invariant-loop-entry
 invariant-loop-entry l =

@@ -1,5 +1,5 @@
 use Rattle.std.proofs.Common.{◌≡◌, replicate}
-use Rattle.taostore.proofs.playing.zeros.Given as goal
+use Rattle.taostore.proofs.session.zeros.Given as goal
 
 abbrev pub invariant-loop : goal.invariant-loop
 invariant-loop l = l.blocks ≡ replicate l.counter (replicate l.p.b 0)

@@ -1,7 +1,7 @@
 use Rattle.std.proofs.Common.{◌+◌, ◌++◌, [], ◌∷◌, ap, ap₂, sym, ◌∙◌, arith}
 use Rattle.std.proofs.lemmas.List.FromFn.{map-range_with_len_more}
 use Rattle.tao_tape.specs.Tapes.{Drawn, drawn, key_word}
-use Rattle.taostore.proofs.playing.key_words.Goals as goal
+use Rattle.taostore.proofs.session.key_words.Goals as goal
 
 pub loop-preserved : goal.loop-preserved
 loop-preserved c =

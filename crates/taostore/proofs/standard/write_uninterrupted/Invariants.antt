@@ -1,0 +1,6 @@
+-- The interrupted writes wrote nothing.
+use Rattle.std.specs.Io.KnownBytes.{Keeps}
+use Rattle.taostore.proofs.standard.write_uninterrupted.Given as goal
+
+abbrev pub invariant-loop : goal.invariant-loop
+invariant-loop g l = Keeps (g.W.Write.contents l.fn.writer) (g.W.Write.contents l.writer)
