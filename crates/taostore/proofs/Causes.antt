@@ -7,10 +7,10 @@ use Rattle.tao_record.specs.State.{RecordState}
 use Rattle.taostore.specs.declared.output.End.{End}
 use Rattle.taostore.specs.declared.output.End.TheVariants.{Done, Refused, Broken, Unbuilt, SourceFailed, NoMemory}
 use Rattle.taostore.specs.Endings.{PlayEnds, RefusedEnds, kept_history, status_of}
-use Rattle.taostore.specs.Laws.{ProgramEnds, AnswersHaveCauses, CausesHaveAnswers, TouchesLittle, HaveCauses, HaveAnswers, TouchLittle}
+use Rattle.taostore.specs.Laws.{ProgramEnds, AnswersHaveCauses, CausesHaveAnswers, TouchesLittle, HaveCauses, HaveAnswers, TouchLittle, PlayIsProgram}
 use Rattle.taostore.specs.Output.{Finishes, PutsAll, PutsMore, PutsPart}
 use Rattle.taostore.specs.Words.{AskToPlay, AreRefused}
-use Rattle.taostore.proofs.Ends.{ends_so, end_front, end_fails}
+use Rattle.taostore.proofs.Ends.{ends_so, end_puts_more, end_fails}
 use Rattle.taostore.proofs.Inputs.{ends_unfailed, ends_source, ends_unplayed, ends_played}
 use Rattle.taostore.proofs.WordLemmas.{asked_or_refused}
 
@@ -153,9 +153,9 @@ module _ {S K : Type 0} (left : S → Option (List ℕ)) (faults : S → ℕ) (p
           sink_failed = end_fails put sunk sink sink' (RefusedEnds left faults source source' (kept_history kept)) status (e.refused refused);
         }
 
-    front_by : AskToPlay words ⊎ AreRefused words → PutsMore put sink sink'
-    front_by (inl asked) = end_front put sunk sink sink' (PlayEnds left faults source source' (kept_history kept)) status (e.play asked)
-    front_by (inr refused) = end_front put sunk sink sink' (RefusedEnds left faults source source' (kept_history kept)) status (e.refused refused)
+    more_by : AskToPlay words ⊎ AreRefused words → PutsMore put sink sink'
+    more_by (inl asked) = end_puts_more put sunk sink sink' (PlayEnds left faults source source' (kept_history kept)) status (e.play asked)
+    more_by (inr refused) = end_puts_more put sunk sink sink' (RefusedEnds left faults source source' (kept_history kept)) status (e.refused refused)
 
     refusal : AreRefused words → (end : End) × (text : List ℕ) × RefusedEnds left faults source source' (kept_history kept) end text
     refusal refused =
@@ -164,7 +164,7 @@ module _ {S K : Type 0} (left : S → Option (List ℕ)) (faults : S → ℕ) (p
 
     touches_little : TouchesLittle left faults put sunk words source source' sink sink' status kept
     touches_little = record {
-      front = front_by (asked_or_refused words);
+      appended = more_by (asked_or_refused words);
       untouched = λ refused. let ends = (refusal refused).2 in (ends.untouched, ends.unfailed);
       none = λ refused. none_kept kept (refusal refused).2.none;
     }
@@ -178,3 +178,6 @@ module _ {S K : Type 0} (left : S → Option (List ℕ)) (faults : S → ℕ) (p
 
   pub touch_little : TouchLittle left faults put sunk
   touch_little words source source' sink sink' status kept e = touches_little left faults put sunk words source source' sink sink' status kept e
+
+  pub play_is_program : PlayIsProgram left faults put sunk
+  play_is_program source source' sink sink' status kept ends = record { refused = λ refused. absurd (refused refl); play = λ asked. ends }

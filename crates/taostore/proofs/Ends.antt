@@ -100,12 +100,12 @@ module _ {K : Type 0} (put : K → Option (List ℕ)) (faults : K → ℕ) (old 
       → EndsAs put faults old new Other status
   ends_for Cause Other status follows e = let so = ends_so Cause status e in ends_with Other so.0 so.1 status (follows so.0 so.1 so.2) so.3
 
-  finish_front : (status : ℕ) (text : List ℕ) (result : ℕ) → Finishes put faults old new status text result → PutsMore put old new
-  finish_front status text result (inl w) = (text, w.1.whole)
-  finish_front status text result (inr w) = (take w.1.part text, w.1.front)
+  finish_puts_more : (status : ℕ) (text : List ℕ) (result : ℕ) → Finishes put faults old new status text result → PutsMore put old new
+  finish_puts_more status text result (inl w) = (text, w.1.whole)
+  finish_puts_more status text result (inr w) = (take w.1.part text, w.1.front)
 
-  pub end_front : (Cause : End → List ℕ → Type 0) (status : ℕ) → EndsAs put faults old new Cause status → PutsMore put old new
-  end_front Cause status e = let so = ends_so Cause status e in finish_front (status_of so.0) so.1 status so.3
+  pub end_puts_more : (Cause : End → List ℕ → Type 0) (status : ℕ) → EndsAs put faults old new Cause status → PutsMore put old new
+  end_puts_more Cause status e = let so = ends_so Cause status e in finish_puts_more (status_of so.0) so.1 status so.3
 
   finish_fails : (status : ℕ) (text : List ℕ) (result : ℕ) → Finishes put faults old new status text result → ¬ (faults new ≡ faults old) → result ≡ 5
   finish_fails status text result (inl w) fails = absurd (fails w.1.unfailed)

@@ -12,7 +12,7 @@ use Rattle.taostore.specs.declared.output.End.TheVariants.{Done, Refused, Broken
 use Rattle.taostore.specs.declared.session.Played.{Played}
 use Rattle.taostore.specs.declared.session.Played.TheVariants.{Whole, Part, Nothing}
 use Rattle.taostore.specs.Endings.{EndsAs, IsLawfullyPlayed, KeepsAll, KeepsPart, PlayEnds, PlayedEnds, ScriptEnds, SessionEnds, TakesPlayed, end_line, final_array}
-use Rattle.taostore.specs.Input.{TakesFront}
+use Rattle.taostore.specs.Input.{TakesPrefix}
 use Rattle.taostore.specs.Playing.{Closes, IsPart, IsPlayed, PlaysScript, PlaysSteps, first_blocks, tape_of}
 use Rattle.taostore.proofs.Ends.{ends_for}
 

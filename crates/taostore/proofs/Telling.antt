@@ -23,7 +23,7 @@ use Rattle.taostore.proofs.Ends.{ends_with}
 abbrev pub texts : (ℕ → List ℕ) → ℕ → List ℕ
 texts f n = flat_map f (range_with_len 0 n)
 
--- the first of them stand at the front
+-- the first of them are a prefix
 more_texts : (f : ℕ → List ℕ) (i left : ℕ) → (rest : List ℕ) × (texts f (i + left) ≡ texts f i ++ rest)
 more_texts f i zero = ([], ap (texts f) (omega arith) ∙ sym (append-nil (texts f i)))
 more_texts f i (suc left) =

@@ -4,7 +4,7 @@ use Rattle.std.proofs.lemmas.List.{take-take}
 use Rattle.std.proofs.Math.Seq.{take-add}
 use Rattle.std.specs.Io.KnownBytes.{Appends, Consumes}
 use Rattle.std.proofs.KnownBytes.{Appends-trans, Consumes-trans}
-use Rattle.taostore.specs.Input.{TakesFront}
+use Rattle.taostore.specs.Input.{TakesPrefix}
 use Rattle.taostore.specs.Output.{PutsAll}
 
 -- a write of some of the bytes behind `at` makes the front that was put longer
@@ -21,6 +21,6 @@ put_more put faults a b c at n bytes front within more kept =
     }
 
 -- some bytes and then some more
-pub front_more : {S : Type 0} (left : S → Option (List ℕ)) (a b c : S) (bytes : List ℕ) → Consumes (left a) (left b) bytes → TakesFront left b c
-    → TakesFront left a c
-front_more left a b c bytes before more = (bytes ++ more.0, Consumes-trans _ _ _ bytes more.0 before more.1)
+pub prefix_more : {S : Type 0} (left : S → Option (List ℕ)) (a b c : S) (bytes : List ℕ) → Consumes (left a) (left b) bytes → TakesPrefix left b c
+    → TakesPrefix left a c
+prefix_more left a b c bytes before more = (bytes ++ more.0, Consumes-trans _ _ _ bytes more.0 before more.1)

@@ -48,7 +48,7 @@ is_form One h = refl
 is_form Two h = cc h
 is_form Turn h = cc h
 
--- where no line is in the way, all steps are whole operations, and there is room for them
+-- where no line is in the way, all steps are whole operations, and no more than a session may have
 pub is_playable : (script : Script) → script.params.k ≡ 1 → is_one script.params.form ≡ true → unbuilt_step (session_limit script.params) script.steps ≡ None → IsPlayable script
 unfolding unbuilt_step
 is_playable script once form none =

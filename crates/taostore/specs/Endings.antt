@@ -16,7 +16,7 @@ use Rattle.tao_text.specs.declared.script.Script.{Script}
 use Rattle.tao_base.specs.Causes.{Rose}
 use Rattle.taostore.specs.declared.output.End.{End}
 use Rattle.taostore.specs.declared.output.End.TheVariants.{Done, Refused, Broken, Unbuilt, SourceFailed, NoMemory}
-use Rattle.taostore.specs.Input.{TakesFront, TakesInput}
+use Rattle.taostore.specs.Input.{TakesPrefix, TakesInput}
 use Rattle.taostore.specs.Output.{PutsAll, PutsPart}
 use Rattle.taostore.specs.Playing.{IsPlayed}
 use Rattle.taostore.specs.declared.session.Played.{Played}
@@ -163,8 +163,8 @@ module _ {S : Type 0} (left : S → Option (List ℕ)) (faults : S → ℕ) (old
   PlayEnds kept Refused text = ⊥
   PlayEnds kept (Broken fault) text = TakesBroken fault × (kept ≡ None) × (text ≡ end_line (Broken fault))
   PlayEnds kept (Unbuilt line) text = ((script : Script) × TakesScript script × (unbuilt_line script ≡ Some line)) × (kept ≡ None) × (text ≡ end_line (Unbuilt line))
-  PlayEnds kept SourceFailed text = TakesFront left old new × Rose (faults old) (faults new) × (kept ≡ None) × (text ≡ end_line SourceFailed)
-  PlayEnds kept NoMemory text = TakesFront left old new × (((kept ≡ None) × (text ≡ end_line NoMemory)) ⊎ ((script : Script) × TakesPlayed script × ScriptEnds script kept NoMemory text))
+  PlayEnds kept SourceFailed text = TakesPrefix left old new × Rose (faults old) (faults new) × (kept ≡ None) × (text ≡ end_line SourceFailed)
+  PlayEnds kept NoMemory text = TakesPrefix left old new × (((kept ≡ None) × (text ≡ end_line NoMemory)) ⊎ ((script : Script) × TakesPlayed script × ScriptEnds script kept NoMemory text))
 
 -- what the source holds is the text of this script, and it can be played
 abbrev pub HoldsPlayed : {S : Type 0} → (S → Option (List ℕ)) → S → Script → Type 0

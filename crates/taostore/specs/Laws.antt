@@ -1,5 +1,5 @@
 -- What follows from how the program ends: each answer has its cause, and each cause has its answer.
-use Rattle.std.specs.Prelude.{◌≡◌, ◌⊎◌, ℕ, List, Option, None, IsNone}
+use Rattle.std.specs.Prelude.{◌≡◌, ◌⊎◌, ℕ, List, [], ◌∷◌, codes, Option, None, IsNone}
 use Rattle.std.specs.Io.KnownBytes.{Keeps}
 use Rattle.tao_base.specs.Causes.{Rose}
 use Rattle.tao_base.specs.Session.{History}
@@ -11,7 +11,7 @@ use Rattle.taostore.specs.Words.{AskToPlay, AreRefused}
 
 module _ {S K : Type 0} (left : S → Option (List ℕ)) (faults : S → ℕ) (put : K → Option (List ℕ)) (sunk : K → ℕ) where
   module _ (words : List (List ℕ)) (source source' : S) (sink sink' : K) (status : ℕ) where
-    -- How the program ends by its words, which are refused or ask to play. `play_top` is the program on the one word `play`.
+    -- how the program ends by its words, which are refused or ask to play
     pub record ProgramEnds (kept : Option RecordState) : Type 0 where
       pub refused : AreRefused words → EndsAs put sunk sink sink' (RefusedEnds left faults source source' (kept_history kept)) status
       pub play : AskToPlay words → EndsAs put sunk sink sink' (PlayEnds left faults source source' (kept_history kept)) status
@@ -37,9 +37,14 @@ module _ {S K : Type 0} (left : S → Option (List ℕ)) (faults : S → ℕ) (p
 
     -- what was put before stays, and refused words take and keep nothing
     pub record TouchesLittle (kept : Option RecordState) : Type 0 where
-      pub front : PutsMore put sink sink'
+      pub appended : PutsMore put sink sink'
       pub untouched : AreRefused words → Keeps (left source) (left source') × (faults source' ≡ faults source)
       pub none : AreRefused words → IsNone kept
+
+  -- `play_top` ends as the program does on the one word `play`
+  abbrev pub PlayIsProgram : Type 0
+  PlayIsProgram = (source source' : S) (sink sink' : K) (status : ℕ) (kept : Option RecordState) → EndsAs put sunk sink sink' (PlayEnds left faults source source' (kept_history kept)) status
+      → ProgramEnds (codes "play" ∷ []) source source' sink sink' status kept
 
   -- however the program ends
   abbrev pub HaveCauses : Type 0

@@ -47,6 +47,6 @@ module _ {K : Type 0} (put : K → Option (List ℕ)) (faults : K → ℕ) (old 
   TellsLines waited waits lines (Err Failed) = PutsPart (waited ++ lines)
   TellsLines waited waits lines (Err NoMemory) = (some : List ℕ) × AreFirstLines some lines × Tells (waited ++ some) waits
 
--- what was put before stands at the front
+-- more bytes were put behind those that were there
 abbrev pub PutsMore : {K : Type 0} → (K → Option (List ℕ)) → K → K → Type 0
 PutsMore put old new = (bytes : List ℕ) × Appends (put old) (put new) bytes

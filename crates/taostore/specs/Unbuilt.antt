@@ -34,7 +34,7 @@ is_whole (What.Ack version) = false
 abbrev pub whole_steps : List Step → ℕ
 whole_steps steps = unwrap_or (position (λ step. not (is_whole step.what)) steps) (length steps)
 
--- the first step that is none, or the first one that a session has no room for
+-- the first step that is none, or the first one beyond the limit of a session
 unfoldable pub unbuilt_step : ℕ → List Step → Option ℕ
 unbuilt_step limit steps = option_map (λ step. step.line) (slice_get steps (min limit (whole_steps steps)))
 

@@ -1,5 +1,5 @@
 //! What follows from how the program ends.
-ghost use Rattle.taostore.specs.Laws.{HaveCauses, HaveAnswers, TouchLittle};
+ghost use Rattle.taostore.specs.Laws.{HaveCauses, HaveAnswers, TouchLittle, PlayIsProgram};
 
 use tao_base::{Sink, Source};
 
@@ -8,4 +8,5 @@ pub fn endings<S: Source, K: Sink>()
     ensures causes { HaveCauses S.left S.faults K.put K.faults }
     ensures answers { HaveAnswers S.left S.faults K.put K.faults }
     ensures rest { TouchLittle S.left S.faults K.put K.faults }
+    ensures play { PlayIsProgram S.left S.faults K.put K.faults }
 {}

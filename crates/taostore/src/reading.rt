@@ -2,7 +2,7 @@
 ghost use Rattle.std.specs.Prelude.{◌≡◌, ◌<◌, ◌≤◌, ◌+◌, ◌++◌, ℕ, List, IfOk, OnOk, IsErrOf, length, vec_len};
 ghost use Rattle.std.specs.Io.KnownBytes.{Consumes, IsAtEnd};
 ghost use Rattle.tao_base.specs.Causes.{Rose};
-ghost use Rattle.taostore.specs.Input.{TakesFront, TakesInput};
+ghost use Rattle.taostore.specs.Input.{TakesPrefix, TakesInput};
 
 use crate::faults::StreamFault;
 use std::alloc::Global;
@@ -18,7 +18,7 @@ pub fn take_all<S: Source>(
     limit: usize,
 ) -> Result<Image, StreamFault>
     ensures bytes { IfOk result (TakesInput S.left source.old source.new limit) }
-    ensures some { TakesFront S.left source.old source.new }
+    ensures some { TakesPrefix S.left source.old source.new }
     ensures ok { OnOk result (S.faults source.new ≡ S.faults source.old) }
     ensures failed { IsErrOf result StreamFault.Failed → Rose (S.faults source.old) (S.faults source.new) }
     ensures memory { IsErrOf result StreamFault.NoMemory → S.faults source.new ≡ S.faults source.old }
@@ -41,7 +41,7 @@ fn read_once<S: Source>(
     bytes: &mut Image,
 ) -> Result<usize, StreamFault>
     requires { 0 < length room.old }
-    ensures some { TakesFront S.left source.old source.new }
+    ensures some { TakesPrefix S.left source.old source.new }
     ensures more { OnOk result ((more : List ℕ) × Consumes (S.left source.old) (S.left source.new) more × (bytes.new ≡ bytes.old ++ more)) }
     ensures count { IfOk result (λ n. (n ≤ length room.old) × (length bytes.new ≡ length bytes.old + n)) }
     ensures end { IfOk result (λ n. n ≡ 0 → IsAtEnd (S.left source.new)) }

@@ -32,7 +32,7 @@ fn do_step(alloc: Global, desk: &mut Desk, step: &Step) -> Result<(), NoMemory>
     requires step { IsStepOf desk.old.history.opening.shape step.now.what }
     requires whole { IsTrue (is_whole step.now.what) }
     requires word { 0 < words_left desk.old }
-    requires room { arrivals_of desk.old.history < session_limit desk.old.history.opening.shape }
+    requires limit { arrivals_of desk.old.history < session_limit desk.old.history.opening.shape }
     requires sound { IsSound desk.old.history }
     ensures ok { OnOk result (PlaysStep desk.old.tape step.now.what desk.old.history desk.new.history) }
     ensures opening { OnOk result (desk.new.history.opening ≡ desk.old.history.opening) }
@@ -107,7 +107,7 @@ fn play_all(alloc: Global, desk: &mut Desk, steps: &[Step]) -> Result<(), NoMemo
     requires steps { All (λ step. IsStepOf desk.old.history.opening.shape step.what) steps.now }
     requires whole { All (λ step. IsTrue (is_whole step.what)) steps.now }
     requires words { length steps.now ≤ words_left desk.old }
-    requires room { arrivals_of desk.old.history + length steps.now ≤ session_limit desk.old.history.opening.shape }
+    requires limit { arrivals_of desk.old.history + length steps.now ≤ session_limit desk.old.history.opening.shape }
     requires sound { IsSound desk.old.history }
     ensures ok { OnOk result (PlaysSteps desk.old.tape steps.now desk.old.history desk.new.history) }
     ensures err { OnErr result ((count : ℕ) × PlaysSteps desk.old.tape (take count steps.now) desk.old.history desk.new.history) }

@@ -20,21 +20,21 @@ pub(crate) fn source_of(
     Ok(ByteSource::new(bytes, Numbers::from_slice(alloc, fails)?))
 }
 
-// A sink with this much room, whose calls with these numbers fail.
-pub(crate) fn sink_of(alloc: Global, room: usize, fails: &[u32]) -> Result<ByteSink, NoMemory> {
+// A sink with this capacity, whose calls with these numbers fail.
+pub(crate) fn sink_of(alloc: Global, capacity: usize, fails: &[u32]) -> Result<ByteSink, NoMemory> {
     let mut sink = ByteSink::new(alloc, Numbers::from_slice(alloc, fails)?);
-    sink.reserve(room)?;
+    sink.reserve(capacity)?;
     Ok(sink)
 }
 
-// The program on this script, with so much room in the sink.
+// The program on this script, with a sink of this capacity.
 pub(crate) fn played(
     alloc: Global,
     script: Image,
-    room: usize,
+    capacity: usize,
 ) -> Result<(u8, ByteSink), NoMemory> {
     let mut source = source_of(alloc, script, &[])?;
-    let mut sink = sink_of(alloc, room, &[])?;
+    let mut sink = sink_of(alloc, capacity, &[])?;
     let mut kept = Kept { history: None };
     let status = play_top(alloc, &mut source, &mut sink, &mut kept);
     Ok((status, sink))

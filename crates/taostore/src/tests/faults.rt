@@ -2,11 +2,13 @@
 ghost use Rattle.std.specs.Prelude.{None};
 ghost use Rattle.tao_base.specs.Memory.{no_half};
 
+use crate::play::finish_played;
 use crate::tests::{ONE_READ, played, reads, sink_of, source_of};
-use crate::{Kept, play_top, taostore};
+use crate::{Kept, Played, endings, play_top, taostore};
 use std::alloc::{AllocError, Global};
 use std::test::Fail;
 use tao_base::{ByteSink, ByteSource, Failed, Image, NoMemory, Sink, Source};
+use tao_record::Record;
 
 const SCRIPT: &[u8] = b"tree 1 1 4 1 1\ntape 1 0\ndo 0 read 0\n";
 
@@ -54,24 +56,46 @@ impl Sink for SlowSink {
     }
 }
 
-// The program on these words and the script; the reads and writes with these numbers fail, and the sink has this much room. The status,
+// Counts its calls, and keeps the length of the longest.
+#[derive(Drop)]
+struct CountingSink {
+    bytes: ByteSink,
+    calls: u32,
+    longest: usize,
+}
+
+impl Sink for CountingSink {
+    ghost put = { λ _. None };
+
+    ghost faults = { λ s. s.bytes.faults };
+
+    ghost apart = { λ _. no_half };
+
+    fn write(&mut self, bytes: &[u8]) -> Result<usize, Failed> {
+        self.calls = self.calls.saturating_add(1);
+        self.longest = self.longest.max(bytes.len());
+        self.bytes.write(bytes)
+    }
+}
+
+// The program on these words and the script; the reads and writes with these numbers fail, and the sink has this capacity. The status,
 // whether a record is kept, and the sink.
 fn run(
     alloc: Global,
     line: &str,
     reads: &[u32],
     writes: &[u32],
-    room: usize,
+    capacity: usize,
 ) -> Result<(u8, bool, ByteSink), NoMemory> {
     let words = words_of(alloc, line)?;
     let mut source = source_of(alloc, Image::from_slice(alloc, SCRIPT)?, reads)?;
-    let mut sink = sink_of(alloc, room, writes)?;
+    let mut sink = sink_of(alloc, capacity, writes)?;
     let mut kept = Kept { history: None };
     let status = taostore(alloc, &words, &mut source, &mut sink, &mut kept);
     Ok((status, kept.history.is_some(), sink))
 }
 
-// the words, the reads and the writes that fail, and the sink's room; the status, whether a record is kept, and what is written
+// the words, the reads and the writes that fail, and the sink's capacity; the status, whether a record is kept, and what is written
 static FAULTS: [(&str, &[u32], &[u32], usize, u8, bool, &str); 14] = [
     ("paly", &[], &[], 99, 2, false, "end 2\n"),
     ("", &[], &[], 99, 2, false, "end 2\n"),
@@ -99,13 +123,14 @@ static FAULTS: [(&str, &[u32], &[u32], usize, u8, bool, &str); 14] = [
 
 #[test]
 fn program_faults(rt: HostRuntime) -> Result<(), Fail> {
-    for (line, reads, writes, room, status, keeps, text) in &FAULTS {
-        let (answer, kept, sink) = run(rt.alloc(), line, reads, writes, *room)?;
+    endings::<ByteSource, ByteSink>();
+    for (line, reads, writes, capacity, status, keeps, text) in &FAULTS {
+        let (answer, kept, sink) = run(rt.alloc(), line, reads, writes, *capacity)?;
         let written = (answer, kept, sink.bytes());
         assert_eq!(rt;
             written,
             (*status, *keeps, text.as_bytes()),
-            "at {line}, {room}"
+            "at {line}, {capacity}"
         );
     }
     Ok(())
@@ -127,7 +152,7 @@ fn one_byte_at_a_time(rt: HostRuntime) -> Result<(), Fail> {
     Ok(())
 }
 
-// a long text is written in pieces: a later write that fails leaves a front of it
+// a long text is written in pieces: a later write that fails leaves a prefix of it
 #[test]
 fn text_in_pieces(rt: HostRuntime) -> Result<(), Fail> {
     let alloc = rt.alloc();
@@ -141,4 +166,52 @@ fn text_in_pieces(rt: HostRuntime) -> Result<(), Fail> {
     assert!(rt; written.len() >= 1 << 16);
     assert!(rt; whole.bytes().starts_with(written));
     Ok(())
+}
+
+// part of a long text is written before its end, in a few calls, none of them with much of it
+#[test]
+fn text_before_its_end(rt: HostRuntime) -> Result<(), Fail> {
+    let alloc = rt.alloc();
+    let mut source = source_of(alloc, reads(alloc, 2_000)?, &[])?;
+    let mut sink = CountingSink {
+        bytes: sink_of(alloc, 1 << 24, &[])?,
+        calls: 0,
+        longest: 0,
+    };
+    let mut kept = Kept { history: None };
+    let status = play_top(alloc, &mut source, &mut sink, &mut kept);
+    assert_eq!(rt; status, 0);
+    let len = sink.bytes.bytes().len();
+    assert!(rt; 2 < sink.calls && sink.calls < 9, "{} calls", sink.calls);
+    assert!(rt; sink.longest < len / 2, "{} of {len}", sink.longest);
+    Ok(())
+}
+
+// where memory runs out, the record is kept as far as it came, whether the end line is written or not; none where no session was opened
+#[test]
+fn little_memory(rt: HostRuntime) -> Result<(), Fail> {
+    let alloc = rt.alloc();
+    for (capacity, status, text) in [(99, 8, "end 8\n"), (3, 5, "end")] {
+        let part = match record_of(alloc)? {
+            Some(session) => Played::Part(session),
+            None => Played::Nothing,
+        };
+        for (played, keeps) in [(part, true), (Played::Nothing, false)] {
+            let mut sink = sink_of(alloc, capacity, &[])?;
+            let mut kept = Kept { history: None };
+            let answer = finish_played(alloc, played, &mut sink, &mut kept);
+            let left = (answer, kept.history.is_some(), sink.bytes());
+            assert_eq!(rt; left, (status, keeps, text.as_bytes()), "at {capacity}");
+        }
+    }
+    Ok(())
+}
+
+// The record of a session of one read.
+fn record_of(alloc: Global) -> Result<Option<Record>, NoMemory> {
+    let mut source = source_of(alloc, Image::from_slice(alloc, SCRIPT)?, &[])?;
+    let mut sink = sink_of(alloc, 999, &[])?;
+    let mut kept = Kept { history: None };
+    play_top(alloc, &mut source, &mut sink, &mut kept);
+    Ok(kept.history)
 }
