@@ -34,19 +34,19 @@ last_on (Acked version ∷ es) block = last_on es block
 last_on (Fault cause ∷ es) block = last_on es block
 
 -- one more arrival; `t` says whether it is real and on the block
-last_arrive : (es : List Event) (client : ℕ) (op : Op) (word block : ℕ) (t : Bool) → (real_now es op && names block op) ≡ t
-    → IsLast (is_real_on es block) (arrived es) (last_on es block)
-    → IsLast (is_real_on (Arrive client op word ∷ es) block) (arrived es + 1) (cond t (Some (arrived es)) (last_on es block))
-last_arrive es client op word block true is h = (omega arith, real_on_newest es client op word block ∙ is, λ j above below. absurd (omega arith))
-last_arrive es client op word block false is h =
-    last_same (is_real_on es block) (is_real_on (Arrive client op word ∷ es) block) (arrived es) (arrived es + 1) (last_on es block)
+pub last_arrive : (es : List Event) (client : ℕ) (op : Op) (word block : ℕ) (last : Option ℕ) (t : Bool) → (real_now es op && names block op) ≡ t
+    → IsLast (is_real_on es block) (arrived es) last
+    → IsLast (is_real_on (Arrive client op word ∷ es) block) (arrived es + 1) (cond t (Some (arrived es)) last)
+last_arrive es client op word block last true is h = (omega arith, real_on_newest es client op word block ∙ is, λ j above below. absurd (omega arith))
+last_arrive es client op word block last false is h =
+    last_same (is_real_on es block) (is_real_on (Arrive client op word ∷ es) block) (arrived es) (arrived es + 1) last
     (λ i old. real_on_stays es (Arrive client op word) block i old)
     (λ i past below. let at : i ≡ arrived es = omega arith in ap (is_real_on (Arrive client op word ∷ es) block) at ∙ real_on_newest es client op word block ∙ is)
     (omega arith) h
 
 last_so_far : (es : List Event) (block : ℕ) → IsLast (is_real_on es block) (arrived es) (last_on es block)
 last_so_far [] block = λ i below. absurd (omega arith)
-last_so_far (Arrive client op word ∷ es) block = last_arrive es client op word block (real_now es op && names block op) refl (last_so_far es block)
+last_so_far (Arrive client op word ∷ es) block = last_arrive es client op word block (last_on es block) (real_now es op && names block op) refl (last_so_far es block)
 last_so_far (Done arrival taken ∷ es) block = last_so_far es block
 last_so_far (Issue version nonce buckets ∷ es) block = last_so_far es block
 last_so_far (Acked version ∷ es) block = last_so_far es block
@@ -65,6 +65,23 @@ next_is o (Done arrival taken ∷ es) block = next_is o es block
 next_is o (Issue version nonce buckets ∷ es) block = next_is o es block
 next_is o (Acked version ∷ es) block = next_is o es block
 next_is o (Fault cause ∷ es) block = next_is o es block
+
+one_last : (passes : ℕ → Bool) (n : ℕ) (a b : Option ℕ) → IsLast passes n a → IsLast passes n b → a ≡ b
+one_last passes n None None f g = refl
+one_last passes n None (Some j) f g = absurd (true≢false (sym g.1 ∙ f j g.0))
+one_last passes n (Some i) None f g = absurd (true≢false (sym f.1 ∙ g i f.0))
+one_last passes n (Some i) (Some j) f g = either (cases_lt i j) (cases_lt j i)
+  where
+    either : (i < j) ⊎ (j ≤ i) → (j < i) ⊎ (i ≤ j) → Some i ≡ Some j
+    either (inl less) c = absurd (true≢false (sym g.1 ∙ f.2 j less g.0))
+    either (inr low) (inl less) = absurd (true≢false (sym f.1 ∙ g.2 i less f.0))
+    either (inr low) (inr high) = let same : i ≡ j = omega arith in ap (λ k. Some k) same
+
+-- the same, of whatever is the last real arrival
+pub next_after_last : (o : Opening) (es : List Event) (block : ℕ) (last : Option ℕ) → IsLast (is_real_on es block) (arrived es) last
+    → next_word o es block ≡ option_map_or (λ i. o.shape.n + i) last block
+next_after_last o es block last is = next_is o es block
+    ∙ ap (λ l. option_map_or (λ i. o.shape.n + i) l block) (one_last (is_real_on es block) (arrived es) (last_on es block) last (last_so_far es block) is)
 
 last_real_is : (es : List Event) (block i : ℕ) → last_on es block ≡ Some i → last_real es block ≡ i
 last_real_is [] block i h = absurd (none-some i h)
