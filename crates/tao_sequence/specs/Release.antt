@@ -15,3 +15,10 @@ pub record IsReleased (flags : List Bool) (r : ℕ) : Type 0 where
   pub within : r ≤ length flags
   pub below : AreDoneBelow flags r
   pub stops : is_done_in flags r ≡ false
+
+-- r is the first place from a start on whose flag isn't up
+pub record IsFirstUndone (flags : List Bool) (from r : ℕ) : Type 0 where
+  pub low : from ≤ r
+  pub within : r ≤ length flags
+  pub between : (i : ℕ) → from ≤ i → i < r → is_done_in flags i ≡ true
+  pub stops : is_done_in flags r ≡ false

@@ -1,7 +1,7 @@
 //! Which arrivals of a session are done, and how many of them may be answered.
 ghost use Rattle.std.specs.Prelude.{◌≡◌, ◌<◌, ◌≤◌, true, false, length, replicate, slice_set, IfOk};
 ghost use Rattle.tao_base.specs.Limits.{session_limit};
-ghost use Rattle.tao_sequence.specs.Release.{is_done_in, IsReleased, AreDoneBelow};
+ghost use Rattle.tao_sequence.specs.Release.{is_done_in, IsReleased, IsFirstUndone};
 
 use std::alloc::Global;
 use std::marker::Model;
@@ -41,8 +41,20 @@ impl Sequence {
         requires once { is_done_in self.old arrival ≡ false }
         ensures { self.new ≡ slice_set self.old arrival true }
     {
+        self.released = self.released_after(arrival) as usize;
         self.done[arrival as usize] = true;
-        self.released = first_undone(&self.done, self.released);
+    }
+
+    /// How many arrivals, from the first on, are all done once this one is too.
+    pub fn released_after(&self, arrival: u64) -> u64
+        requires { arrival < length self.now }
+        ensures { IsReleased (slice_set self.now arrival true) result }
+    {
+        if arrival as usize == self.released {
+            first_undone(&self.done, self.released + 1) as u64
+        } else {
+            self.released()
+        }
     }
 
     /// Whether this arrival is done. One that a session can't have isn't.
@@ -62,9 +74,8 @@ impl Sequence {
 
 // The first arrival from this one on that isn't done.
 fn first_undone(done: &[bool], from: usize) -> usize
-    requires within { from ≤ length done.now }
-    requires below { AreDoneBelow done.now from }
-    ensures { IsReleased done.now result }
+    requires { from ≤ length done.now }
+    ensures { IsFirstUndone done.now from result }
 {
     let mut place = from;
     while place < done.len() && done[place] {

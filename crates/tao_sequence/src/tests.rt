@@ -24,6 +24,8 @@ fn released_up_to_a_gap(rt: HostRuntime) -> Result<(), Fail> {
     assert_eq!(rt; sequence.released(), 0);
     assert_eq!(rt; released_with(&mut sequence, 1), 0);
     assert_eq!(rt; released_with(&mut sequence, 3), 0);
+    assert_eq!(rt; sequence.released_after(2), 0);
+    assert_eq!(rt; sequence.released_after(0), 2);
     assert_eq!(rt; released_with(&mut sequence, 0), 2);
     assert_eq!(rt; released_with(&mut sequence, 2), 4);
     assert_eq!(rt; released_with(&mut sequence, 65_535), 4);
