@@ -1,8 +1,9 @@
 pub mod Fits
 pub mod Following
 pub mod Kept
-pub mod LastOn
+pub mod NextReal
 pub mod Ranges
+pub mod Released
 pub mod Starts
 pub mod Steps
 pub mod Texts

@@ -1,27 +1,28 @@
 -- The tables after one more event. The events `es` are newest first.
-use Rattle.std.proofs.Common.{◌≡◌, ℕ, ◌+◌, ◌<◌, ◌≤◌, ◌==◌, false, ◌&&◌, ◌||◌, cond, List, [], ◌∷◌, ◌++◌, length, Some, None, get_or, set, refl, sym, ap, ◌∙◌, subst, arith, inl, inr, ◌⊎◌}
+use Rattle.std.proofs.Common.{◌≡◌, ℕ, ◌+◌, ◌<◌, ◌≤◌, ◌==◌, Bool, true, ◌&&◌, cond, List, [], ◌∷◌, ◌++◌, length, Some, None, get_or, set, refl, sym, ap, ◌∙◌, subst, arith, inl, inr, ◌⊎◌}
 use Rattle.std.specs.Option.{option_map}
 use Rattle.std.proofs.lemmas.Bool.{eq-eqb, ne_eqb, cases_lt, cases_eq}
 use Rattle.std.proofs.lemmas.List.{get_or_append_left, get_or_push, length_push, get_or-set_same, get_or-set_other}
 use Rattle.tao_base.specs.declared.calls.Op.{Op}
 use Rattle.tao_base.specs.declared.calls.Op.TheVariants.{Read, Write, Pad}
-use Rattle.tao_base.specs.declared.session.Cause.{Cause}
 use Rattle.tao_base.specs.declared.session.Event.{Event}
-use Rattle.tao_base.specs.declared.session.Event.TheVariants.{Arrive, Done, Issue, Acked, Fault}
+use Rattle.tao_base.specs.declared.session.Event.TheVariants.{Arrive, Done}
 use Rattle.tao_base.specs.declared.storage.Bucket.{Bucket}
 use Rattle.tao_base.specs.Session.{Opening}
 use Rattle.tao_base.specs.Array.{block_at, array_step, array_reply}
-use Rattle.tao_model.specs.Events.{arrived, names, is_done, is_pad, is_pad_op}
+use Rattle.tao_model.specs.Greatest.{IsLast}
+use Rattle.tao_model.specs.Events.{arrived, names, is_pad, is_pad_op}
 use Rattle.tao_model.specs.Requests.{real_now}
-use Rattle.tao_model.specs.Replies.{array_now, plain_reply, released}
+use Rattle.tao_model.specs.LookBacks.{is_real_on}
+use Rattle.tao_model.specs.Replies.{array_now, plain_reply}
 use Rattle.tao_model.specs.Lawful.{FollowsLawfully, IsOpening}
 use Rattle.tao_model.proofs.Stays.{pad_stays, client_stays, word_stays, reply_stays}
-use Rattle.tao_model.proofs.Places.{done_arrived}
-use Rattle.tao_model.proofs.Growth.{IsLeading, leading_is, leading_grows}
-use Rattle.tao_trace.specs.Tables.{reply_of, reply_for, value_after, IsTold, IsSlot, AreTables, AreMoved, IsMoved, AreMarked, IsMarked}
+use Rattle.tao_model.proofs.LastReal.{last_arrive}
+use Rattle.tao_trace.specs.Tables.{reply_of, reply_for, value_after, IsTold, IsSlot, AreTables, AreMoved, IsMoved}
 use Rattle.tao_trace.specs.declared.tables.Told.{Told}
 use Rattle.tao_trace.specs.declared.tables.Slot.{Slot}
-use Rattle.tao_trace.proofs.Following.{opening_of, after_arrive, array_len}
+use Rattle.tao_trace.proofs.Following.{opening_of, array_len}
+use Rattle.tao_trace.proofs.Released.{flags_done}
 
 -- ---- an arrival
 
@@ -29,7 +30,6 @@ use Rattle.tao_trace.proofs.Following.{opening_of, after_arrive, array_len}
 pub record IsNewRow (o : Opening) (es : List Event) (client : ℕ) (op : Op) (word : ℕ) (row : Told) : Type 0 where
   pub by : row.client ≡ client
   pub own : row.word ≡ word
-  pub under_way : row.done ≡ false
   pub answer : option_map (λ value. value.now) row.reply ≡ reply_for (array_now o es) op
 
 reply_is : (blocks : List (List ℕ)) (op : Op) → reply_for blocks op ≡ cond (is_pad_op op) None (Some (array_reply blocks op))
@@ -51,12 +51,10 @@ reply_new o es client op word =
     newest : (o : Opening) (es : List Event) (client : ℕ) (op : Op) (word : ℕ) → plain_reply o (Arrive client op word ∷ es) (arrived es) ≡ array_reply (array_now o es) op
     newest o es client op word = rw (eq-eqb (arrived es) (arrived es) refl) refl
 
-row_new : (o : Opening) (es : List Event) (client : ℕ) (op : Op) (word : ℕ) (row : Told) → FollowsLawfully o (Arrive client op word ∷ es) → IsNewRow o es client op word row
-    → IsTold o (Arrive client op word ∷ es) (arrived es) row
-row_new o es client op word row f new = record {
+row_new : (o : Opening) (es : List Event) (client : ℕ) (op : Op) (word : ℕ) (row : Told) → IsNewRow o es client op word row → IsTold o (Arrive client op word ∷ es) (arrived es) row
+row_new o es client op word row new = record {
   client = new.by ∙ sym (rw (eq-eqb (arrived es) (arrived es) refl) refl);
   word = new.own ∙ sym (rw (eq-eqb (arrived es) (arrived es) refl) refl);
-  done = new.under_way ∙ sym (done_arrived o es (arrived es) f.0 (omega arith));
   reply = new.answer ∙ sym (reply_new o es client op word);
 }
 
@@ -64,7 +62,6 @@ row_stays : (o : Opening) (es : List Event) (client : ℕ) (op : Op) (word i : �
 row_stays o es client op word i row h told = record {
   client = told.client ∙ sym (client_stays es (Arrive client op word) i h);
   word = told.word ∙ sym (word_stays es (Arrive client op word) i h);
-  done = told.done;
   reply = told.reply ∙ ap (λ b. cond b None (Some (plain_reply o es i))) (sym (pad_stays es (Arrive client op word) i h))
       ∙ ap (λ r. cond (is_pad (Arrive client op word ∷ es) i) None (Some r)) (sym (reply_stays o es (Arrive client op word) i h));
 }
@@ -82,21 +79,22 @@ value_is blocks (Write id value) block h = either (cases_eq id block)
 slot_moves : (o : Opening) (es : List Event) (client : ℕ) (op : Op) (word block arrival : ℕ) (old new : Slot) → block < length (array_now o es) → arrival ≡ arrived es
     → IsSlot o es block old → IsMoved op arrival (real_now es op) block old new → IsSlot o (Arrive client op word ∷ es) block new
 slot_moves o es client op word block arrival old new h at slot moved = record {
-  last = moved.last ∙ ap (λ n. cond (real_now es op && names block op) (Some n) old.last) at ∙ ap (cond (real_now es op && names block op) (Some (arrived es))) slot.last;
+  last = subst (IsLast (is_real_on (Arrive client op word ∷ es) block) (arrived es + 1)) (sym (moved.last ∙ ap (λ n. cond (real_now es op && names block op) (Some n) old.last) at))
+      (last_arrive es client op word block old.last (real_now es op && names block op) refl slot.last);
   value = moved.value ∙ ap (value_after block op) slot.value ∙ value_is (array_now o es) op block h;
 }
 
-pub tables_arrive : (o : Opening) (es : List Event) (client : ℕ) (op : Op) (word : ℕ) (told : List Told) (slots new : List Slot) (count : ℕ) (row : Told)
-    → FollowsLawfully o (Arrive client op word ∷ es) → AreTables o es told slots count → IsNewRow o es client op word row
-    → length new ≡ length slots → AreMoved op (length told) (real_now es op) slots new → AreTables o (Arrive client op word ∷ es) (told ++ row ∷ []) new count
-tables_arrive o es client op word told slots new count row f t is_row len moved = record {
+pub tables_arrive : (o : Opening) (es : List Event) (client : ℕ) (op : Op) (word : ℕ) (told : List Told) (slots new : List Slot) (flags : List Bool) (row : Told)
+    → FollowsLawfully o (Arrive client op word ∷ es) → AreTables o es told slots flags → IsNewRow o es client op word row
+    → length new ≡ length slots → AreMoved op (length told) (real_now es op) slots new → AreTables o (Arrive client op word ∷ es) (told ++ row ∷ []) new flags
+tables_arrive o es client op word told slots new flags row f t is_row len moved = record {
   arrivals = length_push told row ∙ ap (λ n. n + 1) t.arrivals;
   each = λ i d h. either i d (cases_lt i (length told)) h;
   blocks = len ∙ t.blocks;
   all = λ block d h. let small : block < length slots = let l = len in omega arith in
       slot_moves o es client op word block (length told) (get_or slots block d) (get_or new block d)
       (let a = array_len o es in let b = opens.blocks in let c = t.blocks in omega arith) t.arrivals (t.all block d small) (moved block d small);
-  released = t.released ∙ sym (after_arrive o es client op word f).released;
+  dones = record { len = t.dones.len; each = t.dones.each };
 }
   where
     opens : IsOpening o
@@ -109,66 +107,16 @@ tables_arrive o es client op word told slots new count row f t is_row len moved 
         let len = length_push told row in
         let at : length told ≡ i = omega arith in
         subst (IsTold o (Arrive client op word ∷ es) i) (sym (get_or_push told row d i at))
-        (subst (λ j. IsTold o (Arrive client op word ∷ es) j row) (sym t.arrivals ∙ at) (row_new o es client op word row f is_row))
+        (subst (λ j. IsTold o (Arrive client op word ∷ es) j row) (sym t.arrivals ∙ at) (row_new o es client op word row is_row))
 
 -- ---- a Done
 
-pub released_done : (o : Opening) (es : List Event) (arrival : ℕ) (taken : List Bucket) (count : ℕ) → IsLeading (is_done (Done arrival taken ∷ es)) (arrived es) count
-    → count ≡ released (Done arrival taken ∷ es)
-released_done o es arrival taken count is =
-    let last = leading_is (is_done (Done arrival taken ∷ es)) (arrived es) in
-    let low = leading_grows (is_done (Done arrival taken ∷ es)) (is_done (Done arrival taken ∷ es)) (arrived es) (arrived es) count (released (Done arrival taken ∷ es)) is last (omega arith) (λ i h. h) in
-    let high = leading_grows (is_done (Done arrival taken ∷ es)) (is_done (Done arrival taken ∷ es)) (arrived es) (arrived es) (released (Done arrival taken ∷ es)) count last is (omega arith) (λ i h. h) in
-    omega arith
-
-row_marked : (o : Opening) (es : List Event) (arrival : ℕ) (taken : List Bucket) (i : ℕ) (old new : Told) → IsTold o es i old → IsMarked arrival i old new → IsTold o (Done arrival taken ∷ es) i new
-row_marked o es arrival taken i old new told marked = record {
-  client = marked.client ∙ told.client;
-  word = marked.word ∙ told.word;
-  done = marked.done ∙ ap (λ b. (arrival == i) || b) told.done;
-  reply = marked.reply ∙ told.reply;
-}
-
-pub tables_done : (o : Opening) (es : List Event) (arrival : ℕ) (taken : List Bucket) (told new : List Told) (slots : List Slot) (before count : ℕ)
-    → AreTables o es told slots before → length new ≡ length told → AreMarked arrival told new → count ≡ released (Done arrival taken ∷ es)
-    → AreTables o (Done arrival taken ∷ es) new slots count
-tables_done o es arrival taken told new slots before count t len marked is = record {
-  arrivals = len ∙ t.arrivals;
-  each = λ i d h. let small : i < length told = let l = len in omega arith in
-      row_marked o es arrival taken i (get_or told i d) (get_or new i d) (t.each i d small) (marked i d small);
-  blocks = t.blocks;
-  all = λ block d h. let s = t.all block d h in record { last = s.last; value = s.value };
-  released = is;
-}
-
--- ---- the other events
-
-pub tables_issue : (o : Opening) (es : List Event) (version nonce : ℕ) (buckets : List Bucket) (told : List Told) (slots : List Slot) (count : ℕ)
-    → AreTables o es told slots count → AreTables o (Issue version nonce buckets ∷ es) told slots count
-tables_issue o es version nonce buckets told slots count t = record {
+pub tables_done : (o : Opening) (es : List Event) (arrival : ℕ) (taken : List Bucket) (told : List Told) (slots : List Slot) (flags : List Bool)
+    → FollowsLawfully o (Done arrival taken ∷ es) → AreTables o es told slots flags → AreTables o (Done arrival taken ∷ es) told slots (set flags arrival true)
+tables_done o es arrival taken told slots flags f t = record {
   arrivals = t.arrivals;
-  each = λ i d h. let r = t.each i d h in record { client = r.client; word = r.word; done = r.done; reply = r.reply };
+  each = λ i d h. let r = t.each i d h in record { client = r.client; word = r.word; reply = r.reply };
   blocks = t.blocks;
   all = λ block d h. let s = t.all block d h in record { last = s.last; value = s.value };
-  released = t.released;
-}
-
-pub tables_acked : (o : Opening) (es : List Event) (version : ℕ) (told : List Told) (slots : List Slot) (count : ℕ)
-    → AreTables o es told slots count → AreTables o (Acked version ∷ es) told slots count
-tables_acked o es version told slots count t = record {
-  arrivals = t.arrivals;
-  each = λ i d h. let r = t.each i d h in record { client = r.client; word = r.word; done = r.done; reply = r.reply };
-  blocks = t.blocks;
-  all = λ block d h. let s = t.all block d h in record { last = s.last; value = s.value };
-  released = t.released;
-}
-
-pub tables_fault : (o : Opening) (es : List Event) (cause : Cause) (told : List Told) (slots : List Slot) (count : ℕ)
-    → AreTables o es told slots count → AreTables o (Fault cause ∷ es) told slots count
-tables_fault o es cause told slots count t = record {
-  arrivals = t.arrivals;
-  each = λ i d h. let r = t.each i d h in record { client = r.client; word = r.word; done = r.done; reply = r.reply };
-  blocks = t.blocks;
-  all = λ block d h. let s = t.all block d h in record { last = s.last; value = s.value };
-  released = t.released;
+  dones = flags_done o es arrival taken flags t.dones f;
 }

@@ -1,5 +1,5 @@
 -- The lines of the next event, in words of the tables.
-use Rattle.std.proofs.Common.{◌≡◌, ℕ, ◌-◌, ◌<◌, ◌≤◌, Bool, true, false, List, [], ◌∷◌, ◌++◌, codes, cond, length, flat_map, refl, sym, ap, ◌∙◌, arith}
+use Rattle.std.proofs.Common.{◌≡◌, ℕ, ◌-◌, ◌≤◌, Bool, true, false, List, [], ◌∷◌, ◌++◌, codes, cond, length, set, flat_map, refl, sym, ap, ◌∙◌, arith}
 use Rattle.std.specs.List.{range_with_len}
 use Rattle.std.proofs.lemmas.Bool.{eq-eqb}
 use Rattle.tao_base.specs.declared.calls.Op.{Op}
@@ -15,13 +15,14 @@ use Rattle.tao_model.specs.Requests.{real_now, next_word, fetched_leaf}
 use Rattle.tao_model.specs.Replies.{released}
 use Rattle.tao_model.specs.Lawful.{FollowsLawfully}
 use Rattle.tao_model.specs.Transcript.{arrive_line, reply_line}
-use Rattle.tao_model.proofs.Growth.{leading_is, done_stays}
+use Rattle.tao_model.proofs.Growth.{leading_is, released_grows_later}
+use Rattle.tao_sequence.specs.Release.{IsReleased}
 use Rattle.tao_trace.specs.Printing.{events_before, lines_at}
 use Rattle.tao_trace.specs.Tables.{Fit, IsNext, word_fetched}
 use Rattle.tao_trace.specs.declared.tables.Told.{Told}
 use Rattle.tao_trace.specs.declared.tables.Slot.{Slot}
 use Rattle.tao_trace.proofs.Following.{after_arrive}
-use Rattle.tao_trace.proofs.Steps.{released_done}
+use Rattle.tao_trace.proofs.Released.{released_is, flags_done}
 
 leaf_block : (o : Opening) (es : List Event) (client : ℕ) (op : Op) (word block : ℕ) (real : Bool) → real_now es op ≡ real
     → FollowsLawfully o (Arrive client op word ∷ es)
@@ -36,44 +37,35 @@ leaf_is o es client (Read id) word f = leaf_block o es client (Read id) word id 
 leaf_is o es client (Write id value) word f = leaf_block o es client (Write id value) word id (real_now es (Write id value)) refl f (λ real. (after_arrive o es client (Write id value) word f).leaf_of_block id (eq-eqb id id refl) real)
 leaf_is o es client Pad word f = (after_arrive o es client Pad word f).leaf_of_word refl
 
-pub arrive_text : (h : History) (place : ℕ) (told : List Told) (slots : List Slot) (count client word arrival leaf : ℕ) (op : Op)
-    → Fit h place told slots count → IsNext h place (Arrive client op word) → arrival ≡ length told → leaf ≡ leaf_of h.opening.shape.l (word_fetched h.opening (events_before h place) op word)
+pub arrive_text : (h : History) (place : ℕ) (client word arrival leaf : ℕ) (op : Op) (told : List Told) (slots : List Slot) (flags : List Bool)
+    → Fit h place told slots flags → IsNext h place (Arrive client op word) → arrival ≡ length told → leaf ≡ leaf_of h.opening.shape.l (word_fetched h.opening (events_before h place) op word)
     → arrive_line arrival client op ++ words_line (codes "fetch") (arrival ∷ leaf ∷ []) ≡ lines_at h place
-arrive_text h place told slots count client word arrival leaf op f n at is =
+arrive_text h place client word arrival leaf op told slots flags f n at is =
     ap (λ i. arrive_line i client op ++ words_line (codes "fetch") (i ∷ leaf ∷ [])) (at ∙ f.tables.arrivals)
     ∙ ap (λ (x : ℕ). arrive_line (arrived (events_before h place)) client op ++ words_line (codes "fetch") (arrived (events_before h place) ∷ x ∷ []))
     (is ∙ sym (leaf_is h.opening (events_before h place) client op word n.follows))
     ∙ sym n.lines
 
-pub done_text : (h : History) (place : ℕ) (told : List Told) (slots : List Slot) (count arrival end : ℕ) (taken : List Bucket)
-    → Fit h place told slots count → IsNext h place (Done arrival taken) → end ≡ released (Done arrival [] ∷ events_before h place)
-    → words_line (codes "done") (arrival ∷ []) ++ flat_map (reply_line h.opening (events_before h place)) (range_with_len count (end - count)) ≡ lines_at h place
-done_text h place told slots count arrival end taken f n is =
-    ap (λ (x : ℕ). words_line (codes "done") (arrival ∷ []) ++ flat_map (reply_line h.opening (events_before h place)) (range_with_len count (x - count))) is
-    ∙ ap (λ (x : ℕ). words_line (codes "done") (arrival ∷ []) ++ flat_map (reply_line h.opening (events_before h place)) (range_with_len x (released (Done arrival [] ∷ events_before h place) - x))) f.tables.released
-    ∙ sym n.lines
+-- a Done releases the answers from the first number up to the second, and its text is its line and theirs
+pub record Releases (h : History) (place arrival first end : ℕ) : Type 0 where
+  pub low : first ≤ end
+  pub high : end ≤ arrived (events_before h place)
+  pub text : words_line (codes "done") (arrival ∷ []) ++ flat_map (reply_line h.opening (events_before h place)) (range_with_len first (end - first)) ≡ lines_at h place
 
--- ---- how far answers are released
+pub done_releases : (h : History) (place arrival first end : ℕ) (taken : List Bucket) (told : List Told) (slots : List Slot) (flags : List Bool)
+    → Fit h place told slots flags → IsNext h place (Done arrival taken) → IsReleased flags first → IsReleased (set flags arrival true) end → Releases h place arrival first end
+done_releases h place arrival first end taken told slots flags f n before after = record {
+  low = let grows = released_grows_later (Done arrival taken ∷ []) (events_before h place) in let from = first_is in let to = end_is in omega arith;
+  high = let within = (leading_is (is_done (Done arrival taken ∷ events_before h place)) (arrived (events_before h place))).within in let to = end_is in omega arith;
+  text = ap (λ (x : ℕ). words_line (codes "done") (arrival ∷ []) ++ flat_map (reply_line h.opening (events_before h place)) (range_with_len first (x - first))) end_is
+      ∙ ap (λ (x : ℕ). words_line (codes "done") (arrival ∷ [])
+      ++ flat_map (reply_line h.opening (events_before h place)) (range_with_len x (released (Done arrival taken ∷ events_before h place) - x))) first_is
+      ∙ sym n.lines;
+}
+  where
+    first_is : first ≡ released (events_before h place)
+    first_is = released_is h.opening (events_before h place) flags first n.follows.0 f.tables.dones before
 
-pub done_before : (h : History) (place : ℕ) (told : List Told) (slots : List Slot) (count arrival i : ℕ) → Fit h place told slots count → i < count
-    → is_done (Done arrival [] ∷ events_before h place) i ≡ true
-done_before h place told slots count arrival i f small =
-    let is = f.tables.released in
-    done_stays (Done arrival [] ∷ []) (events_before h place) i ((leading_is (is_done (events_before h place)) (arrived (events_before h place))).below i (omega arith))
-
-pub ends_at : (h : History) (place : ℕ) (told : List Told) (slots : List Slot) (count arrival end : ℕ) → Fit h place told slots count → end ≤ length told
-    → ((i : ℕ) → i < end → is_done (Done arrival [] ∷ events_before h place) i ≡ true)
-    → (end < length told → is_done (Done arrival [] ∷ events_before h place) end ≡ false)
-    → end ≡ released (Done arrival [] ∷ events_before h place)
-ends_at h place told slots count arrival end f within below next = released_done h.opening (events_before h place) arrival [] end (record {
-  within = let len = f.tables.arrivals in omega arith;
-  below = below;
-  next = λ less. let len = f.tables.arrivals in next (omega arith);
-})
-
-pub released_within : (h : History) (place : ℕ) (told : List Told) (slots : List Slot) (count : ℕ) → Fit h place told slots count → count ≤ length told
-released_within h place told slots count f =
-    let len = f.tables.arrivals in
-    let is = f.tables.released in
-    let within = (leading_is (is_done (events_before h place)) (arrived (events_before h place))).within in
-    omega arith
+    end_is : end ≡ released (Done arrival taken ∷ events_before h place)
+    end_is = released_is h.opening (Done arrival taken ∷ events_before h place) (set flags arrival true) end n.follows
+        (flags_done h.opening (events_before h place) arrival taken flags f.tables.dones n.follows) after

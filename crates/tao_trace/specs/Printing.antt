@@ -14,6 +14,14 @@ pub record PrinterState : Type 0 where
 abbrev pub events_before : History → ℕ → List Event
 events_before h place = reverse (take place h.events)
 
+-- the events that a printer has printed, newest first
+abbrev pub printed : PrinterState → List Event
+printed t = events_before t.history t.place
+
+-- the printer behind its next event
+abbrev pub gone_on : PrinterState → PrinterState
+gone_on t = record t { place = t.place + 1 }
+
 -- the lines of the first of the events left, behind those before it
 abbrev pub first_lines : Opening → List Event → List Event → List ℕ
 first_lines o before [] = []

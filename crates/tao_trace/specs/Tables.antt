@@ -1,32 +1,26 @@
--- What a printer knows of the events that it has printed: of each arrival, of each block, and how many answers are released.
-use Rattle.std.specs.Prelude.{◌≡◌, ℕ, ◌+◌, ◌==◌, ◌<◌, ◌≤◌, Bool, ◌&&◌, ◌||◌, if◌then◌else◌, List, [], ◌∷◌, length, map, All, reverse, Option, Some, None}
+-- What a printer knows of the events that it has printed: of each arrival, of each block, and which arrivals are done.
+use Rattle.std.specs.Prelude.{◌≡◌, ℕ, ◌+◌, ◌==◌, ◌<◌, ◌≤◌, Bool, ◌&&◌, if◌then◌else◌, List, ◌∷◌, length, map, All, reverse, Option, Some, None}
 use Rattle.std.specs.List.{slice_index_or}
 use Rattle.std.specs.Option.{option_map}
 use Rattle.tao_base.specs.declared.calls.Op.{Op}
 use Rattle.tao_base.specs.declared.calls.Op.TheVariants.{Read, Write, Pad}
 use Rattle.tao_base.specs.declared.session.Event.{Event}
-use Rattle.tao_base.specs.declared.session.Event.TheVariants.{Arrive, Done, Issue, Acked, Fault}
+use Rattle.tao_base.specs.declared.session.Event.TheVariants.{Done}
 use Rattle.tao_base.specs.declared.storage.Bucket.{Bucket}
+use Rattle.tao_base.specs.Limits.{session_limit}
 use Rattle.tao_base.specs.Session.{Opening, History}
 use Rattle.tao_base.specs.Array.{block_at}
 use Rattle.tao_model.specs.Events.{arrived, names, is_done, is_pad, client_of, word_of, word_at}
+use Rattle.tao_model.specs.Greatest.{IsLast}
 use Rattle.tao_model.specs.Requests.{real_now, next_word}
-use Rattle.tao_model.specs.Replies.{array_now, plain_reply, released}
+use Rattle.tao_model.specs.LookBacks.{is_real_on}
+use Rattle.tao_model.specs.Replies.{array_now, plain_reply}
 use Rattle.tao_model.specs.Transcript.{event_lines}
 use Rattle.tao_model.specs.Lawful.{FollowsLawfully}
-use Rattle.tao_trace.specs.Printing.{events_before, lines_at}
+use Rattle.tao_sequence.specs.Release.{is_done_in}
+use Rattle.tao_trace.specs.Printing.{PrinterState, events_before, lines_at}
 use Rattle.tao_trace.specs.declared.tables.Told.{Told}
 use Rattle.tao_trace.specs.declared.tables.Slot.{Slot}
-use Rattle.tao_trace.specs.declared.tables.Tables.{Tables}
-
--- the last real arrival on a block, where there was one; the events are newest first
-abbrev pub last_on : List Event → ℕ → Option ℕ
-last_on [] block = None
-last_on (Arrive client op word ∷ es) block = if real_now es op && names block op then Some (arrived es) else last_on es block
-last_on (Done arrival taken ∷ es) block = last_on es block
-last_on (Issue version nonce buckets ∷ es) block = last_on es block
-last_on (Acked version ∷ es) block = last_on es block
-last_on (Fault cause ∷ es) block = last_on es block
 
 -- what an arrival is answered; a pad isn't
 abbrev pub reply_of : Opening → List Event → ℕ → Option (List ℕ)
@@ -36,21 +30,31 @@ reply_of o es i = if is_pad es i then None else Some (plain_reply o es i)
 pub record IsTold (o : Opening) (es : List Event) (i : ℕ) (row : Told) : Type 0 where
   pub client : row.client ≡ client_of es i
   pub word : row.word ≡ word_of es i
-  pub done : row.done ≡ is_done es i
   pub reply : option_map (λ value. value.now) row.reply ≡ reply_of o es i
 
 -- what is kept of a block: its last real arrival and its value
 pub record IsSlot (o : Opening) (es : List Event) (block : ℕ) (slot : Slot) : Type 0 where
-  pub last : slot.last ≡ last_on es block
+  pub last : IsLast (is_real_on es block) (arrived es) slot.last
   pub value : slot.value.now ≡ block_at (array_now o es) block
 
--- the tables fit these events, the newest first: a row for each arrival, a slot for each block, and how many answers are released
-pub record AreTables (o : Opening) (es : List Event) (told : List Told) (slots : List Slot) (count : ℕ) : Type 0 where
+-- a flag for each arrival that a session may have, up where it is done
+pub record AreFlags (o : Opening) (es : List Event) (flags : List Bool) : Type 0 where
+  pub len : length flags ≡ session_limit o.shape
+  pub each : (i : ℕ) → is_done_in flags i ≡ is_done es i
+
+-- the tables fit these events, the newest first: a row for each arrival, a slot for each block, and the flags of what is done
+pub record AreTables (o : Opening) (es : List Event) (told : List Told) (slots : List Slot) (flags : List Bool) : Type 0 where
   pub arrivals : length told ≡ arrived es
   pub each : (i : ℕ) (d : Told) → i < length told → IsTold o es i (slice_index_or told i d)
   pub blocks : length slots ≡ o.shape.n
   pub all : (block : ℕ) (d : Slot) → block < length slots → IsSlot o es block (slice_index_or slots block d)
-  pub released : count ≡ released es
+  pub dones : AreFlags o es flags
+
+-- the record is lawful, and the tables fit its events before the place
+pub record Fit (h : History) (place : ℕ) (told : List Told) (slots : List Slot) (flags : List Bool) : Type 0 where
+  pub within : place ≤ length h.events
+  pub follows : FollowsLawfully h.opening (reverse h.events)
+  pub tables : AreTables h.opening (events_before h place) told slots flags
 
 -- an event comes next
 pub record IsNext (h : History) (place : ℕ) (e : Event) : Type 0 where
@@ -58,6 +62,14 @@ pub record IsNext (h : History) (place : ℕ) (e : Event) : Type 0 where
   pub before : events_before h (place + 1) ≡ e ∷ events_before h place
   pub lines : lines_at h place ≡ event_lines h.opening (events_before h place) e
   pub follows : FollowsLawfully h.opening (e ∷ events_before h place)
+
+-- this event is the next one to print
+abbrev pub NextOf : PrinterState → Event → Type 0
+NextOf t e = IsNext t.history t.place e
+
+-- the Done of this arrival is the next event to print
+abbrev pub IsDoneNext : PrinterState → ℕ → Type 0
+IsDoneNext t arrival = (taken : List Bucket) × NextOf t (Done arrival taken)
 
 -- ---- one more arrival
 
@@ -78,58 +90,15 @@ pub record IsMoved (op : Op) (arrival : ℕ) (real : Bool) (block : ℕ) (old ne
   pub last : new.last ≡ (if real && names block op then Some arrival else old.last)
   pub value : new.value.now ≡ value_after block op old.value.now
 
--- the tables fit the events before the place; the record is lawful
-pub record Fit (h : History) (place : ℕ) (told : List Told) (slots : List Slot) (count : ℕ) : Type 0 where
-  pub within : place ≤ length h.events
-  pub follows : FollowsLawfully h.opening (reverse h.events)
-  pub tables : AreTables h.opening (events_before h place) told slots count
-
--- the tables fit the events of their record before their place
-abbrev pub IsAt : Tables → Type 0
-IsAt t = Fit t.history.now.history t.place t.told.items t.slots.items t.released
-
--- the same place of the same record
-pub record Stays (old new : Tables) : Type 0 where
-  pub history : new.history ≡ old.history
-  pub place : new.place ≡ old.place
-  pub fits : IsAt new
-
--- the next place of the same record
-pub record GoesOn (old new : Tables) : Type 0 where
-  pub history : new.history ≡ old.history
-  pub place : new.place ≡ old.place + 1
-  pub fits : IsAt new
-
 -- the word whose leaf is fetched by a new arrival
 abbrev pub word_fetched : Opening → List Event → Op → ℕ → ℕ
 word_fetched o es (Read id) word = if real_now es (Read id) then word_at o es (next_word o es id) else word
 word_fetched o es (Write id value) word = if real_now es (Read id) then word_at o es (next_word o es id) else word
 word_fetched o es Pad word = word
 
--- this event is the next one of the record that the tables are of
-abbrev pub NextOf : Tables → Event → Type 0
-NextOf t e = IsNext t.history.now.history t.place e
-
 -- a new arrival has so moved the slot of each block
 abbrev pub AreMoved : Op → ℕ → Bool → List Slot → List Slot → Type 0
 AreMoved op arrival real old new = (block : ℕ) (d : Slot) → block < length old → IsMoved op arrival real block (slice_index_or old block d) (slice_index_or new block d)
-
--- ---- one more Done
-
--- The Done of an arrival marks row i: it is done where it is the row of that arrival or was done before, and has all else as it was.
-pub record IsMarked (arrival i : ℕ) (old new : Told) : Type 0 where
-  pub client : new.client ≡ old.client
-  pub word : new.word ≡ old.word
-  pub done : new.done ≡ ((arrival == i) || old.done)
-  pub reply : option_map (λ value. value.now) new.reply ≡ option_map (λ value. value.now) old.reply
-
--- the Done of an arrival has so marked the row of each arrival
-abbrev pub AreMarked : ℕ → List Told → List Told → Type 0
-AreMarked arrival old new = (i : ℕ) (d : Told) → i < length old → IsMarked arrival i (slice_index_or old i d) (slice_index_or new i d)
-
--- the Done of this arrival comes next
-abbrev pub IsDoneNext : Tables → ℕ → Type 0
-IsDoneNext t arrival = (taken : List Bucket) × NextOf t (Done arrival taken)
 
 -- ---- the start
 

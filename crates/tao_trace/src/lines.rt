@@ -1,4 +1,4 @@
-//! The lines of one event, given the numbers that they tell. A line that can't be ended leaves a front of itself.
+//! The lines of one event, given the numbers that they tell. Where memory runs out, a prefix of the line is left.
 ghost use Rattle.std.specs.Prelude.{◌≡◌, [], ◌∷◌, ◌++◌, codes, length, flat_map, OnOk, OnErr};
 ghost use Rattle.tao_base.specs.declared.session.Cause.TheVariants.{Damaged, Stale};
 ghost use Rattle.tao_base.specs.Lines.{spaced, spaced_hex, words_line, hex_line};
@@ -86,7 +86,7 @@ pub(crate) fn push_cause(out: &mut Image, cause: &Cause) -> Result<(), NoMemory>
     }
 }
 
-// The beginning of a line that tells of a bucket that was refused.
+// The start of the line of a bucket that was refused.
 fn push_refused(out: &mut Image, fetch: u64, node: u32) -> Result<(), NoMemory>
     ensures ok { OnOk result (out.new ≡ out.old ++ ((codes "refused" ++ spaced fetch) ++ spaced node)) }
     ensures err { OnErr result (Extends out.old out.new) }

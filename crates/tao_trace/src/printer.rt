@@ -9,8 +9,8 @@ use std::marker::Model;
 use tao_base::{Image, NoMemory};
 use tao_record::Record;
 
-/// How far a record was printed. Printing a whole record takes time in its length and in what is printed: nothing is looked for in the
-/// events before.
+/// How far a record was printed. Printing a whole record takes time in its length and in that of its text: no earlier event is read
+/// again.
 #[derive(Debug, Drop)]
 pub struct Printer<'a> {
     tables: Tables<'a>,
@@ -18,13 +18,10 @@ pub struct Printer<'a> {
 
 impl<'a> Model for Printer<'a> {
     ghost use Rattle.tao_trace.specs.Printing.{PrinterState};
-    ghost use Rattle.tao_trace.specs.Tables.{IsAt};
 
     ghost Value = { PrinterState };
 
-    ghost view = { λ p. record { history = p.tables.history.now.history; place = p.tables.place } };
-
-    ghost invariant = { λ p. IsAt p.tables };
+    ghost view = { λ p. p.tables };
 }
 
 impl<'a> Printer<'a> {
@@ -75,7 +72,7 @@ impl<'a> Printer<'a> {
     }
 }
 
-/// Appends the lines of the event at a place. The events before it are gone over first, which takes memory of their number.
+/// Appends the lines of the event at a place. The events before it are gone over first, which takes time and memory in their number.
 pub fn print_event(
     alloc: Global,
     out: &mut Image,

@@ -1,5 +1,5 @@
-//! What is kept of the events that were printed: of each arrival and of each block.
-ghost use Rattle.std.specs.Prelude.{◌≡◌, ◌+◌, ◌-◌, ◌<◌, ◌≤◌, ◌%◌, ◌^◌, ◌↔◌, false, true, [], ◌∷◌, ◌++◌, length, reverse, slice_index, Some, None, OnOk, OnErr, IfOk, get_or};
+//! What is kept of the events that were printed: of each arrival, of each block, and which arrivals are done.
+ghost use Rattle.std.specs.Prelude.{◌≡◌, ◌+◌, ◌-◌, ◌<◌, ◌≤◌, ◌%◌, ◌^◌, ◌↔◌, [], ◌∷◌, ◌++◌, length, reverse, slice_index, Some, None, OnOk, OnErr, IfOk, get_or};
 ghost use Rattle.std.specs.List.{slice_index_or};
 ghost use Rattle.std.specs.Option.{option_map};
 ghost use Rattle.tao_base.specs.declared.calls.Op.TheVariants.{Read};
@@ -7,23 +7,24 @@ ghost use Rattle.tao_base.specs.Array.{block_at};
 ghost use Rattle.tao_base.specs.Limits.{IsShape};
 ghost use Rattle.tao_base.specs.Tree.{leaf_of};
 ghost use Rattle.tao_base.specs.declared.session.Event.TheVariants.{Arrive, Done};
-ghost use Rattle.tao_model.specs.Events.{arrived, is_done, word_at, NamesBelow};
+ghost use Rattle.tao_model.specs.Events.{arrived, word_at, NamesBelow};
 ghost use Rattle.tao_model.specs.Requests.{real_now, next_word};
-ghost use Rattle.tao_model.specs.Replies.{array_now, released};
+ghost use Rattle.tao_model.specs.Replies.{array_now};
 ghost use Rattle.tao_model.specs.Lawful.{FollowsLawfully, IsInRange};
-ghost use Rattle.tao_trace.specs.Printing.{events_before};
-ghost use Rattle.tao_trace.specs.Tables.{IsAt, AreFirst, Stays, GoesOn, NextOf, AreMoved, word_fetched, reply_for};
+ghost use Rattle.tao_trace.specs.Printing.{printed, gone_on, at_start};
+ghost use Rattle.tao_trace.specs.Tables.{AreFirst, NextOf, IsDoneNext, AreMoved, word_fetched, reply_for};
 
 use std::alloc::Global;
+use std::marker::Model;
 use tao_base::{Block, NoMemory, Op};
 use tao_record::Record;
+use tao_sequence::Sequence;
 
-/// An arrival: who made it, its own word, whether its path was taken in, and what it is answered, where it is no pad.
+/// An arrival: who made it, its own word, and what it is answered, where it is no pad.
 #[derive(Clone, Copy, Debug)]
 pub(crate) struct Told<'a> {
     pub(crate) client: u32,
     pub(crate) word: u32,
-    pub(crate) done: bool,
     pub(crate) reply: Option<&'a Block>,
 }
 
@@ -41,51 +42,57 @@ pub(crate) struct Tables<'a> {
     pub(crate) place: usize,
     pub(crate) told: Vec<Told<'a>>,
     pub(crate) slots: Vec<Slot<'a>>,
-    pub(crate) released: usize,
+    pub(crate) sequence: Sequence,
+}
+
+impl<'a> Model for Tables<'a> {
+    ghost use Rattle.tao_trace.specs.Printing.{PrinterState};
+    ghost use Rattle.tao_trace.specs.Tables.{Fit};
+
+    ghost Value = { PrinterState };
+
+    ghost view = { λ t. record { history = t.history.now.history; place = t.place } };
+
+    ghost invariant = { λ t. Fit t.history.now.history t.place t.told.items t.slots.items t.sequence };
 }
 
 impl<'a> Tables<'a> {
     /// Before the first event.
     pub(crate) fn new(alloc: Global, history: &'a Record) -> Result<Tables<'a>, NoMemory>
         requires { FollowsLawfully history.now.history.opening (reverse history.now.history.events) }
-        ensures fits { IfOk result IsAt }
-        ensures history { IfOk result (λ t. t.history.now ≡ history.now) }
-        ensures place { IfOk result (λ t. t.place ≡ 0) }
+        ensures { IfOk result (λ t. t ≡ at_start history.now.history) }
     {
         Ok(Tables {
             history,
             place: 0,
             told: Vec::new(alloc),
             slots: first_slots(alloc, history.first())?,
-            released: 0,
+            sequence: Sequence::new(alloc, history.params())?,
         })
     }
 
     /// How many events come.
     pub(crate) fn left(&self) -> usize
-        requires { IsAt self.now }
-        ensures { result ≡ length self.now.history.now.history.events - self.now.place }
+        ensures { result ≡ length self.now.history.events - self.now.place }
     {
         self.history.events().len() - self.place
     }
 
     /// Whether no real arrival on the block is under way.
     fn is_free(&self, block: usize) -> bool
-        requires tables { IsAt self.now }
-        requires block { block < self.now.history.now.history.opening.shape.n }
-        ensures { result ≡ real_now (events_before self.now.history.now.history self.now.place) (Read block) }
+        requires { block < self.now.history.opening.shape.n }
+        ensures { result ≡ real_now (printed self.now) (Read block) }
     {
         match self.slots[block].last {
-            Some(arrival) => self.told[arrival].done,
+            Some(arrival) => self.sequence.is_done(arrival as u64),
             None => true,
         }
     }
 
     /// The word that the next real arrival on the block uses.
     fn next_word(&self, block: usize) -> u32
-        requires tables { IsAt self.now }
-        requires block { block < self.now.history.now.history.opening.shape.n }
-        ensures { result ≡ word_at self.now.history.now.history.opening (events_before self.now.history.now.history self.now.place) (next_word self.now.history.now.history.opening (events_before self.now.history.now.history self.now.place) block) }
+        requires { block < self.now.history.opening.shape.n }
+        ensures { result ≡ word_at self.now.history.opening (printed self.now) (next_word self.now.history.opening (printed self.now) block) }
     {
         match self.slots[block].last {
             Some(arrival) => self.told[arrival].word,
@@ -95,9 +102,8 @@ impl<'a> Tables<'a> {
 
     /// Whether an arrival of this operation is real.
     fn is_real(&self, op: &Op) -> bool
-        requires tables { IsAt self.now }
-        requires range { IsInRange self.now.history.now.history.opening.shape op.now }
-        ensures { result ≡ real_now (events_before self.now.history.now.history self.now.place) op.now }
+        requires { IsInRange self.now.history.opening.shape op.now }
+        ensures { result ≡ real_now (printed self.now) op.now }
     {
         match op {
             Op::Read(id) | Op::Write(id, _) => self.is_free(*id as usize),
@@ -106,9 +112,8 @@ impl<'a> Tables<'a> {
     }
 
     fn word_on(&self, block: usize, word: u32) -> u32
-        requires tables { IsAt self.now }
-        requires block { block < self.now.history.now.history.opening.shape.n }
-        ensures { result ≡ word_fetched self.now.history.now.history.opening (events_before self.now.history.now.history self.now.place) (Read block) word }
+        requires { block < self.now.history.opening.shape.n }
+        ensures { result ≡ word_fetched self.now.history.opening (printed self.now) (Read block) word }
     {
         if self.is_free(block) {
             self.next_word(block)
@@ -119,9 +124,8 @@ impl<'a> Tables<'a> {
 
     /// The leaf that an arrival of this operation fetches.
     pub(crate) fn leaf_for(&self, op: &Op, word: u32) -> u32
-        requires tables { IsAt self.now }
-        requires range { IsInRange self.now.history.now.history.opening.shape op.now }
-        ensures { result ≡ leaf_of self.now.history.now.history.opening.shape.l (word_fetched self.now.history.now.history.opening (events_before self.now.history.now.history self.now.place) op.now word) }
+        requires { IsInRange self.now.history.opening.shape op.now }
+        ensures { result ≡ leaf_of self.now.history.opening.shape.l (word_fetched self.now.history.opening (printed self.now) op.now word) }
     {
         let word = match op {
             Op::Read(id) | Op::Write(id, _) => self.word_on(*id as usize, word),
@@ -132,9 +136,8 @@ impl<'a> Tables<'a> {
 
     /// What an arrival of this operation is answered.
     fn reply_to(&self, op: &Op) -> Option<&'a Block>
-        requires tables { IsAt self.now }
-        requires range { IsInRange self.now.history.now.history.opening.shape op.now }
-        ensures { option_map (λ value. value.now) result ≡ reply_for (array_now self.now.history.now.history.opening (events_before self.now.history.now.history self.now.place)) op.now }
+        requires { IsInRange self.now.history.opening.shape op.now }
+        ensures { option_map (λ value. value.now) result ≡ reply_for (array_now self.now.history.opening (printed self.now)) op.now }
     {
         match op {
             Op::Read(id) | Op::Write(id, _) => Some(self.slots[*id as usize].value),
@@ -144,29 +147,38 @@ impl<'a> Tables<'a> {
 
     /// Keeps an arrival.
     pub(crate) fn add_arrival(&mut self, client: u32, op: &'a Op, word: u32) -> Result<(), NoMemory>
-        requires tables { IsAt self.old }
         requires next { NextOf self.old (Arrive client op.now word) }
-        requires range { IsInRange self.old.history.now.history.opening.shape op.now }
-        ensures ok { OnOk result (GoesOn self.old self.new) }
-        ensures err { OnErr result (Stays self.old self.new) }
+        requires range { IsInRange self.old.history.opening.shape op.now }
+        ensures ok { OnOk result (self.new ≡ gone_on self.old) }
+        ensures err { OnErr result (self.new ≡ self.old) }
     {
+        let next = self.next_place();
         let arrival = self.told.len();
         let real = self.is_real(op);
         let reply = self.reply_to(op);
         self.told.push(Told {
             client,
             word,
-            done: false,
             reply,
         })?;
         move_slot(&mut self.slots, op, arrival, real);
-        self.place = self.next_place();
+        self.place = next;
         Ok(())
+    }
+
+    /// Keeps a Done.
+    pub(crate) fn add_done(&mut self, arrival: u64)
+        requires { IsDoneNext self.old arrival }
+        ensures { self.new ≡ gone_on self.old }
+    {
+        let next = self.next_place();
+        self.sequence.done(arrival);
+        self.place = next;
     }
 
     /// The place behind the next event.
     pub(crate) fn next_place(&self) -> usize
-        requires { self.now.place < length self.now.history.now.history.events }
+        requires { self.now.place < length self.now.history.events }
         ensures { result ≡ self.now.place + 1 }
     {
         let _all = self.history.events().len();

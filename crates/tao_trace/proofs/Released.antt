@@ -1,0 +1,70 @@
+-- What the flags of the arrivals tell of a record. The events `es` are newest first.
+use Rattle.std.proofs.Common.{◌≡◌, ℕ, ◌<◌, ◌≤◌, Bool, true, false, ◌||◌, List, [], ◌∷◌, length, replicate, set, get_or, sym, ap, ◌∙◌, arith, inl, inr, ◌⊎◌, nat_eq}
+use Rattle.std.proofs.lemmas.Bool.{cases_lt, true≢false}
+use Rattle.std.proofs.lemmas.List.{length-set, length-replicate, get_or-replicate, get_or_past}
+use Rattle.tao_base.specs.declared.storage.Bucket.{Bucket}
+use Rattle.tao_base.specs.declared.session.Event.{Event}
+use Rattle.tao_base.specs.declared.session.Event.TheVariants.{Arrive, Done, Issue, Acked, Fault}
+use Rattle.tao_base.specs.Limits.{session_limit}
+use Rattle.tao_base.specs.Session.{Opening}
+use Rattle.tao_model.specs.Events.{arrived, is_done}
+use Rattle.tao_model.specs.Replies.{released}
+use Rattle.tao_model.specs.Lawful.{FollowsLawfully}
+use Rattle.tao_model.proofs.Places.{done_arrived}
+use Rattle.tao_model.proofs.Growth.{IsLeading, leading_is, leading_grows}
+use Rattle.tao_sequence.specs.Release.{is_done_in, IsReleased}
+use Rattle.tao_sequence.proofs.Flags.{raised}
+use Rattle.tao_trace.specs.Tables.{AreFlags}
+
+arrived_within : (o : Opening) (es : List Event) → FollowsLawfully o es → arrived es ≤ session_limit o.shape
+arrived_within o [] f = omega arith
+arrived_within o (Arrive client op word ∷ es) f = let room = f.2.1 in omega arith
+arrived_within o (Done arrival taken ∷ es) f = arrived_within o es f.0
+arrived_within o (Issue version nonce buckets ∷ es) f = arrived_within o es f.0
+arrived_within o (Acked version ∷ es) f = arrived_within o es f.0
+arrived_within o (Fault cause ∷ es) f = arrived_within o es f.0
+
+-- an arrival that may be done has a flag
+pub has_flag : (o : Opening) (es : List Event) (arrival : ℕ) (taken : List Bucket) (flags : List Bool) → AreFlags o es flags → FollowsLawfully o (Done arrival taken ∷ es) → arrival < length flags
+has_flag o es arrival taken flags are f = let len = are.len in let limit = arrived_within o es f.0 in let there = f.2.1.arrived in omega arith
+
+-- and it isn't up
+pub flag_is_down : (o : Opening) (es : List Event) (arrival : ℕ) (taken : List Bucket) (flags : List Bool) → AreFlags o es flags → FollowsLawfully o (Done arrival taken ∷ es)
+    → is_done_in flags arrival ≡ false
+flag_is_down o es arrival taken flags are f = are.each arrival ∙ f.2.1.under_way
+
+-- a Done raises it
+pub flags_done : (o : Opening) (es : List Event) (arrival : ℕ) (taken : List Bucket) (flags : List Bool) → AreFlags o es flags → FollowsLawfully o (Done arrival taken ∷ es)
+    → AreFlags o (Done arrival taken ∷ es) (set flags arrival true)
+flags_done o es arrival taken flags are f = record {
+  len = length-set flags arrival true ∙ are.len;
+  each = λ i. raised flags arrival i (has_flag o es arrival taken flags are f) ∙ ap (λ t. nat_eq arrival i || t) (are.each i);
+}
+
+pub flags_first : (o : Opening) → AreFlags o [] (replicate (session_limit o.shape) false)
+flags_first o = record { len = length-replicate (session_limit o.shape) false; each = λ i. either i (cases_lt i (session_limit o.shape)) }
+  where
+    either : (i : ℕ) → (i < session_limit o.shape) ⊎ (session_limit o.shape ≤ i) → get_or (replicate (session_limit o.shape) false) i false ≡ false
+    either i (inl low) = get_or-replicate (session_limit o.shape) i false false low
+    either i (inr high) = get_or_past (replicate (session_limit o.shape) false) i false (let len = length-replicate (session_limit o.shape) false in omega (arith, len))
+
+-- what the flags say is released is what the record has released
+pub released_is : (o : Opening) (es : List Event) (flags : List Bool) (r : ℕ) → FollowsLawfully o es → AreFlags o es flags → IsReleased flags r → r ≡ released es
+released_is o es flags r f are is =
+    let low = leading_grows (is_done es) (is_done es) (arrived es) (arrived es) r (released es) leads last (omega arith) (λ i h. h) in
+    let high = leading_grows (is_done es) (is_done es) (arrived es) (arrived es) (released es) r last leads (omega arith) (λ i h. h) in
+    omega arith
+  where
+    last : IsLeading (is_done es) (arrived es) (released es)
+    last = leading_is (is_done es) (arrived es)
+
+    within : (arrived es < r) ⊎ (r ≤ arrived es) → r ≤ arrived es
+    within (inl past) = absurd (true≢false (sym (sym (are.each (arrived es)) ∙ is.below (arrived es) past) ∙ done_arrived o es (arrived es) f (omega arith)))
+    within (inr low) = low
+
+    leads : IsLeading (is_done es) (arrived es) r
+    leads = record {
+      within = within (cases_lt (arrived es) r);
+      below = λ i small. sym (are.each i) ∙ is.below i small;
+      next = λ early. sym (are.each r) ∙ is.stops;
+    }
