@@ -9,7 +9,7 @@ use Rattle.tao_held.specs.Steps.{take_in, with_path, put, evict}
 use Rattle.tao_contents.specs.CleanLaws.{CleanResidents, touching, RealFetchKeepsClean, FakeFetchKeepsClean, IssueCleans, AcknowledgementKeepsClean, CurrentIsWritten}
 use Rattle.tao_contents.proofs.Looks.{outside}
 
--- a node that is off the path has what it had
+-- a node off the path keeps its entries
 evict_off : (s : Shape) (at : ℕ) (leaf : ℕ → ℕ) (contents : ℕ → List Entry) (w : ℕ) → 0 < w → is_on_path s.l at w ≡ false → evict s at leaf contents w ≡ contents w
 evict_off s at leaf contents w low off = (eviction_is_placed s (path s.l at) leaf contents).others w (outside s.l at w low off)
 
@@ -20,7 +20,7 @@ was_held : (x y : Bool) → (x || y) ≡ true → y ≡ false → x ≡ true
 was_held true y held off = refl
 was_held false y held off = absurd (true≢false (sym held ∙ off))
 
--- contents that differ from the old on the path alone
+-- contents that changed only on the path
 off_path_clean : (l at : ℕ) (resident recent : ℕ → Bool) (own own' newest : ℕ → List Entry) → ((w : ℕ) → 0 < w → is_on_path l at w ≡ false → own' w ≡ own w)
     → CleanResidents resident recent own newest → CleanResidents (with_path l at resident) (touching l at recent) own' newest
 off_path_clean l at resident recent own own' newest same clean w low held old =

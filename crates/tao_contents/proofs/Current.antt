@@ -1,4 +1,4 @@
--- What the proxy's steps make of the current contents, node by node.
+-- How the proxy's steps change the current contents, node by node.
 use Rattle.std.proofs.Common.{◌≡◌, ℕ, Bool, true, false, not, ◌&&◌, ◌||◌, cond, List, [], ◌∷◌, is_some, refl, sym, ap, ◌∙◌, inl, inr, ◌⊎◌, nat_eq}
 use Rattle.std.proofs.lemmas.Bool.{eq-eqb, eqb-true, cases_Bool, true≢false}
 use Rattle.tao_base.specs.declared.storage.Entry.{Entry}
@@ -12,7 +12,7 @@ use Rattle.tao_held.specs.Steps.{take_in, with_path, put}
 use Rattle.tao_contents.specs.FetchLaws.{IsHonest}
 use Rattle.tao_contents.proofs.Looks.{stash_is_off, inside_is, first_alike}
 
--- ---- taking in
+-- ---- admitting a path
 
 take_in_cases : (z r p : Bool) (o t n : List Entry) → (z ≡ true → p ≡ true → ⊥) → (p ≡ true → r ≡ false → t ≡ n)
     → cond (z || r) o n ≡ cond (z || (r || p)) (cond (p && not r) t o) n
@@ -36,7 +36,7 @@ or_true false y e = e
 pub held_path : (l at : ℕ) (resident : ℕ → Bool) (w : ℕ) → is_on_path l at w ≡ true → with_path l at resident w ≡ true
 held_path l at resident w on = or_true (resident w) (is_on_path l at w) on
 
--- ---- where the path is held, the stash and the path are the proxy's own
+-- ---- if the path is held, the stash and the path are the proxy's own
 
 abbrev pub HoldsPath : ℕ → ℕ → (ℕ → Bool) → Type 0
 HoldsPath l at resident = (w : ℕ) → is_on_path l at w ≡ true → resident w ≡ true

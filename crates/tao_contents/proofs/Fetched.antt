@@ -40,7 +40,7 @@ to_evict_alike s at leaf value contents other same ready b below = either (ready
       one = one_alike s.l (leaf b) (leaf b) b (value b) (value b) contents other refl refl (λ w. ap (look b) (same w)) out.one;
     })
 
--- the eviction of what the proxy holds, where it holds the path
+-- the eviction, if the proxy holds the path
 pub evicting_keeps : (s : Shape) (at : ℕ) (leaf : ℕ → ℕ) (value : ℕ → List ℕ) (resident : ℕ → Bool) (own newest : ℕ → List Entry) → HoldsPath s.l at resident
     → FreshToEvict s at leaf value (current_contents resident own newest) → FreshCopy s leaf value (current_contents resident (evict s at leaf own) newest)
 evicting_keeps s at leaf value resident own newest holds ready =

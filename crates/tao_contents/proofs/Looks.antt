@@ -47,7 +47,7 @@ on_path_is_node l at w on = either (cases_eq w 0)
     either (inl stash) = absurd (true≢false (sym on ∙ ap (is_on_path l at) stash ∙ stash_is_off l at))
     either (inr node) = omega arith
 
--- the stash and the nodes of a path, as a list
+-- the stash and the nodes of a path as a list
 pub inside_stash : (l at w : ℕ) → w ≡ 0 → has w (0 ∷ path l at) ≡ true
 inside_stash l at w stash = rw (eq-eqb 0 w (sym stash)) refl
 
@@ -79,7 +79,7 @@ outside l at w low off = or_neither (nat_eq 0 w) (has w (path l at)) (ne_eqb 0 w
 
 -- ---- first copies
 
--- a copy in one of the nodes, and in no other node at all, is the first
+-- if just one node has a copy, and it is in the list, that copy is the first
 pub first_one : (b node : ℕ) (x : List ℕ) (held : ℕ → List Entry) (nodes : List ℕ) → has node nodes ≡ true → look b (held node) ≡ Some x
     → ((w : ℕ) → (w ≡ node → ⊥) → look b (held w) ≡ None) → first_copy nodes held b ≡ Some x
 first_one b node x held [] on there alone = absurd (false≢true on)
@@ -93,12 +93,12 @@ first_one b node x held (w ∷ ws) on there alone = either (cases_eq w node) (λ
     either (inl here) ih = rw (ap (λ v. look b (held v)) here ∙ there) refl
     either (inr other) ih = rw (alone w other) (ih (later other (or_cases (nat_eq w node) (has node ws) on)))
 
--- without a copy in any of the nodes there is no first one
+-- if no node of the list has a copy, there is no first copy
 pub first_none : (b : ℕ) (held : ℕ → List Entry) (nodes : List ℕ) → ((w : ℕ) → has w nodes ≡ true → look b (held w) ≡ None) → first_copy nodes held b ≡ None
 first_none b held [] none = refl
 first_none b held (w ∷ ws) none = rw (none w (rw (eq-eqb w w refl) refl)) (first_none b held ws (λ v on. none v (or_later (nat_eq w v) (has v ws) on)))
 
--- and without a first one no copy
+-- and conversely
 pub none_first : (b : ℕ) (held : ℕ → List Entry) (nodes : List ℕ) → first_copy nodes held b ≡ None → (w : ℕ) → has w nodes ≡ true → look b (held w) ≡ None
 none_first b held [] none w on = absurd (false≢true on)
 none_first b held (v ∷ ws) none w on = either (parts (look b (held v)) refl none) (or_cases (nat_eq v w) (has w ws) on) (λ rest later. none_first b held ws rest w later)
@@ -112,7 +112,7 @@ none_first b held (v ∷ ws) none w on = either (parts (look b (held v)) refl no
     either both (inl same) ih = ap (λ u. look b (held u)) (sym (eqb-true v w same)) ∙ both.0
     either both (inr later) ih = ih both.1 later
 
--- the first copy hangs on what is found in the nodes alone
+-- the first copy depends only on what is found in the nodes
 pub first_alike : (b : ℕ) (held other : ℕ → List Entry) (nodes : List ℕ) → ((w : ℕ) → has w nodes ≡ true → look b (held w) ≡ look b (other w))
     → first_copy nodes held b ≡ first_copy nodes other b
 first_alike b held other [] same = refl

@@ -27,7 +27,7 @@ counted_here b e es here = counted_next b e es ∙ ap (λ t. cond t 1 0 + counte
 counted_on : (b : ℕ) (e : Entry) (es : List Entry) → (e.id ≡ b → ⊥) → counted b (e ∷ es) ≡ 0 + counted b es
 counted_on b e es on = counted_next b e es ∙ ap (λ t. cond t 1 0 + counted b es) (ne_eqb e.id b on)
 
--- what isn't found isn't counted
+-- a block that isn't found isn't counted
 pub counted_none : (b : ℕ) (es : List Entry) → look b es ≡ None → counted b es ≡ 0
 counted_none b [] none = refl
 counted_none b (e ∷ es) none = either (cases_eq e.id b) (λ on. counted_none b es (sym (look_on e es b on) ∙ none))
@@ -36,7 +36,7 @@ counted_none b (e ∷ es) none = either (cases_eq e.id b) (λ on. counted_none b
     either (inl here) ih = absurd (none-some e.value (sym none ∙ look_here e es b here))
     either (inr on) ih = let next = counted_on b e es on in let rest = ih on in omega arith
 
--- what is found in a rising list is counted once
+-- a block found in a rising list is counted once
 pub counted_found : (k b : ℕ) (es : List Entry) (x : List ℕ) → Rises k es → look b es ≡ Some x → counted b es ≡ 1
 counted_found k b [] x r found = absurd (none-some x found)
 counted_found k b (e ∷ es) x r found = either (cases_eq e.id b) (λ on. counted_found (e.id + 1) b es x r.1 (sym (look_on e es b on) ∙ found))
@@ -48,7 +48,7 @@ counted_found k b (e ∷ es) x r found = either (cases_eq e.id b) (λ on. counte
         omega arith
     either (inr on) ih = let next = counted_on b e es on in let rest = ih on in omega arith
 
--- what holds of all entries of a block holds of the one that is found
+-- what holds of all entries of a block holds of the one found
 all_look : (Q : List ℕ → Type 0) (b : ℕ) (es : List Entry) (x : List ℕ) → All (λ entry. entry.id ≡ b → Q entry.value) es → look b es ≡ Some x → Q x
 all_look Q b [] x all found = absurd (none-some x found)
 all_look Q b (e ∷ es) x all found = either (cases_eq e.id b)
@@ -95,7 +95,7 @@ one_of contents b a (suc n) node x rises low high there alone = either (cases_eq
         let rest = ih on in
         omega arith
 
--- found or not, in a rising list
+-- whether found or not, in a rising list
 abbrev FoundOrNot : ℕ → List Entry → Type 0
 FoundOrNot b es = ((x : List ℕ) × (look b es ≡ Some x) × (counted b es ≡ 1)) ⊎ ((look b es ≡ None) × (counted b es ≡ 0))
 
@@ -121,7 +121,7 @@ of_none contents b a (suc n) rises count w low high = either (found_or_not b (co
     either (inr none) (inl here) ih = ap (λ v. look b (contents v)) (sym here) ∙ none.0
     either (inr none) (inr on) ih = ih (let all = next in let no_entry = none.1 in omega arith) on
 
--- the one of some nodes that has an entry of the block
+-- the one node that has an entry of the block
 record OneOf (contents : ℕ → List Entry) (b a n : ℕ) : Type 0 where
   node : ℕ
   value : List ℕ

@@ -1,4 +1,4 @@
--- What the tree is loaded with is fresh.
+-- The loaded tree is fresh.
 use Rattle.std.proofs.Common.{◌≡◌, ℕ, ◌<◌, ◌≤◌, Bool, true, false, ◌||◌, cond, List, length, All, Some, None, refl, sym, ap, ◌∙◌, subst, arith, inl, inr, ◌⊎◌, nat_eq, nat_lt}
 use Rattle.std.proofs.lemmas.Bool.{ne_eqb, eq-eqb, eqb-true, lt-ltb, and_parts, and_from}
 use Rattle.tao_base.specs.declared.storage.Entry.{Entry}

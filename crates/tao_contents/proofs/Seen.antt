@@ -1,4 +1,4 @@
--- When all is done, what is seen is the plain array.
+-- When all is done, a scan sees the plain array.
 use Rattle.std.proofs.Common.{◌≡◌, ℕ, suc, ◌+◌, ◌<◌, Bool, true, false, ◌||◌, cond, List, [], ◌∷◌, map, length, Some, refl, sym, ap, ◌∙◌, arith, inl, inr, ◌⊎◌, nat_eq}
 use Rattle.std.specs.List.{slice_index_or, range_with_len}
 use Rattle.std.proofs.lemmas.Bool.{cases_eq}
@@ -20,7 +20,7 @@ read_cases true r o n m honest = refl
 read_cases false true o n m honest = refl
 read_cases false false o n m honest = sym (honest refl refl)
 
--- what is seen is fresh, and has the array's values
+-- the seen contents are fresh and have the array's values
 seen_fresh : (s : Shape) (array : List (List ℕ)) (leaf : ℕ → ℕ) (value : ℕ → List ℕ) (resident : ℕ → Bool) (own newest read : ℕ → List Entry)
     → IsFinalLook s array leaf value resident own newest read → FreshCopy s leaf (λ b. block_at array b) (current_contents resident own read)
 seen_fresh s array leaf value resident own newest read is =
@@ -37,7 +37,7 @@ seen_is_final s array leaf value resident own newest read is b w x below found =
     either (inl here) = same_Some x (block_at array b) (sym found ∙ ap (λ v. look b (current_contents resident own read v)) here ∙ one.there)
     either (inr other) = absurd (none-some x (sym (one.alone w other) ∙ found))
 
--- a list is that of its elements by their places
+-- a list as its elements by place
 listed : (f : ℕ → List ℕ) (xs : List (List ℕ)) (a : ℕ) → ((i : ℕ) → i < length xs → f (a + i) ≡ slice_index_or xs i []) → map f (range_with_len a (length xs)) ≡ xs
 listed f [] a h = refl
 listed f (x ∷ xs) a h =

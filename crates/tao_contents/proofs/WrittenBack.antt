@@ -1,4 +1,4 @@
--- Write-backs and acknowledgements keep the copies fresh, and what is then written is fresh too.
+-- Write-backs and acknowledgements keep the copies fresh, and the written contents are fresh too.
 use Rattle.std.proofs.Common.{◌≡◌, ℕ, ◌+◌, ◌^◌, ◌<◌, ◌≤◌, Bool, true, false, not, ◌&&◌, ◌||◌, cond, List, [], ◌∷◌, length, All, Some, None, is_some, refl, sym, ap, ◌∙◌, subst, arith, inl, inr, ◌⊎◌, nat_eq}
 use Rattle.std.specs.List.{range_with_len}
 use Rattle.std.proofs.lemmas.Bool.{ne_eqb, eq-eqb, eqb-true, cases_eq, cases_lt, and_from}
@@ -58,7 +58,7 @@ write_back_is_fresh s at leaf value resident old own newest small holds is clean
     written : (w : ℕ) → 0 < w → look b (current_contents resident own newest w) ≡ look b (newest w)
     written w low = ap (look b) (current_is_written resident own newest clean w low)
 
-    -- a block whose entry is in the stash was left there for want of room
+    -- a block in the stash was left there because the nodes are full
     shown : (w : ℕ) → has w (0 ∷ path s.l at) ≡ true → cond (has w (0 ∷ path s.l at)) (own w) [] ≡ own w
     shown w inside = rw inside refl
 
@@ -105,7 +105,7 @@ write_back_is_fresh s at leaf value resident old own newest small holds is clean
 pub fresh_writes_count : FreshWritesCount
 fresh_writes_count s leaf value filled newest rises writes b below = either (writes b below)
   where
-    -- what holds of an entry that is found holds of each entry of the block
+    -- what holds of the entry found holds of each entry of the block
     each : (Q : List ℕ → Type 0) (w : ℕ) → ((x : List ℕ) → look b (newest w) ≡ Some x → Q x) → All (λ entry. entry.id ≡ b → Q entry.value) (newest w)
     each Q w h = All-weaker (λ entry. look entry.id (newest w) ≡ Some entry.value) (λ entry. entry.id ≡ b → Q entry.value)
         (λ entry found here. h entry.value (sym (ap (λ id. look id (newest w)) here) ∙ found)) (newest w) (all_found 0 (newest w) (rises w))

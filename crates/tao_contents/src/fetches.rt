@@ -1,22 +1,22 @@
-//! Laws: a fetched path, taken in, looked up, put and evicted, keeps the copies fresh.
+//! Laws: copies stay fresh when a fetched path is admitted, looked up, put and evicted.
 ghost use Rattle.tao_contents.specs.FetchLaws.{TakingInKeeps, FetchFinds, RealFetchKeeps, FakeFetchKeeps};
 
-/// Taking an honest answer in moves no entry.
+/// Admitting an honest answer moves no entry.
 pub fn taking_in_keeps()
     ensures { TakingInKeeps }
 {}
 
-/// The look-up then finds the settled value of a block whose path was fetched.
+/// Then the look-up finds the settled value of a block whose path was fetched.
 pub fn fetch_finds()
     ensures { FetchFinds }
 {}
 
-/// After a fetch for a block its copy is fresh with its new value and its new position, and all others are as fresh as before.
+/// After a fetch for a block its copy is fresh with the new value and position, and all others are as fresh as before.
 pub fn real_fetch_keeps()
     ensures { RealFetchKeeps }
 {}
 
-/// So are all after a fetch for no block, of a fake arrival or a pad.
+/// After a fetch for no block, by a fake arrival or a pad, all are.
 pub fn fake_fetch_keeps()
     ensures { FakeFetchKeeps }
 {}

@@ -1,5 +1,5 @@
 //! Laws of contents: through each step of the proxy every block has one fresh copy.
-//! There is no code but the laws: functions with empty bodies whose contract is the law.
+//! The only code is laws: functions with empty bodies, whose contract is the law.
 #![tactic(auto)]
 
 mod clean;

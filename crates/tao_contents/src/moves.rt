@@ -1,22 +1,22 @@
 //! Laws: one look-up, one put, one eviction.
 ghost use Rattle.tao_contents.specs.Moves.{FreshAlike, LookUpFinds, PutIs, PutIsFound, FreshMayBeEvicted, PutMayBeEvicted, EvictionKeeps};
 
-/// Fresh copy is a matter of positions, values and what look-ups find alone.
+/// Fresh copy depends only on positions, values and look-ups.
 pub fn fresh_alike()
     ensures { FreshAlike }
 {}
 
-/// Where the path of its position was fetched, a block's settled value is found.
+/// The look-up finds a block's settled value if the path of its position was fetched.
 pub fn look_up_finds()
     ensures { LookUpFinds }
 {}
 
-/// A put changes the stash alone, and there the one block.
+/// A put changes only the stash, and there only the one block.
 pub fn put_is()
     ensures { PutIs }
 {}
 
-/// What was put is found, though the path may have an older copy.
+/// What was put is found even if the path has an older copy.
 pub fn put_is_found()
     ensures { PutIsFound }
 {}
@@ -26,12 +26,12 @@ pub fn fresh_may_be_evicted()
     ensures { FreshMayBeEvicted }
 {}
 
-/// So may they once a block of this path was put with its new value, whatever its new position is.
+/// They may also be evicted after a put of a block on this path, whatever its new position is.
 pub fn put_may_be_evicted()
     ensures { PutMayBeEvicted }
 {}
 
-/// The eviction leaves one copy of each block, where its position allows.
+/// An eviction leaves one copy of each block, where its position allows.
 pub fn eviction_keeps()
     ensures { EvictionKeeps }
 {}

@@ -1,12 +1,12 @@
-//! Laws: what the tree is loaded with is fresh.
+//! Laws: the loaded tree is fresh.
 ghost use Rattle.tao_contents.specs.OpeningLaws.{OpeningIsFresh, LoadWritesFresh};
 
-/// The placement of the load gives a fresh copy of every block.
+/// After the load each block has a fresh copy.
 pub fn opening_is_fresh()
     ensures { OpeningIsFresh }
 {}
 
-/// What is loaded are fresh writes.
+/// The load counts as a fresh write.
 pub fn load_writes_fresh()
     ensures { LoadWritesFresh }
 {}

@@ -1,4 +1,4 @@
--- Nodes that the proxy holds are clean, but where they were touched since the last write-back. The events `es` are newest first.
+-- Held nodes are clean, unless they were touched since the last write-back. The events `es` are newest first.
 use Rattle.std.proofs.Common.{◌≡◌, ℕ, ◌+◌, ◌*◌, ◌≤◌, Bool, true, false, not, ◌&&◌, ◌||◌, cond, List, [], ◌∷◌, reverse, All, Option, Some, None, is_some, refl, sym, ap, ◌∙◌, arith, nat_eq, nat_lt, mul-le-mul_right}
 use Rattle.std.specs.Option.{option_or}
 use Rattle.std.proofs.lemmas.Bool.{lt-ltb, le-ltb, true≢false, or_from}
@@ -33,12 +33,12 @@ fetch_keeps_clean true s at leaf resident recent recent' taken own newest block 
 fetch_keeps_clean false s at leaf resident recent recent' taken own newest block value old clean w low held_now is_old =
     fake_fetch_keeps_clean s at leaf resident recent taken own newest clean w low held_now (old w is_old)
 
--- the Done of number n + 1
+-- the Done of number n + 1; `t` says whether it touches the node
 old_step : (t : Bool) (n m last : ℕ) → m ≤ n → nat_lt m (cond t (n + 1) last) ≡ false → (nat_lt m last || t) ≡ false
 old_step true n m last paced_so old = absurd (true≢false (sym (lt-ltb m (n + 1) (omega arith)) ∙ old))
 old_step false n m last paced_so old = or_from (nat_lt m last) false old refl
 
--- what a write-back that holds what is held makes the newest entries
+-- the latest entries of a node after a write-back of what is held
 issued_entries : (o : Opening) (es : List Event) (w : ℕ) (buckets : List Bucket) → All (λ bucket. bucket.entries ≡ held o es bucket.node) buckets
     → is_some (bucket_of w buckets) ≡ true → entries_of_option (option_or (bucket_of w buckets) (newest_write o es w)) ≡ held o es w
 issued_entries o es w buckets true_ones on = either (bucket_of w buckets) refl on
@@ -76,7 +76,7 @@ departing_is_old o es version w known leaves =
     let before : version * o.shape.k ≤ issues es * o.shape.k = mul-le-mul_right o.shape.k known in
     le-ltb (issues es * o.shape.k) (last_touch o es w) (omega arith)
 
--- what stays when nodes go
+-- a node that stays keeps its entries
 pub stays_held : (o : Opening) (es : List Event) (version w : ℕ) → is_resident o es w ≡ true → departs o es version w ≡ false → held o (Acked version ∷ es) w ≡ held o es w
 unfolding held
 stays_held o es version w there stays = either (nat_eq w 0)

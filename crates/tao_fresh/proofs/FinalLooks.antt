@@ -1,4 +1,4 @@
--- When all is done, what is seen is the plain array. The events `es` are newest first.
+-- When all is done, a scan sees the plain array. The events `es` are newest first.
 use Rattle.std.proofs.Common.{◌≡◌, ℕ, suc, ◌+◌, ◌*◌, ◌<◌, ◌≤◌, true, false, cond, List, [], ◌∷◌, reverse, Option, Some, None, is_some, refl, sym, ap, ◌∙◌, arith, inl, inr, ◌⊎◌, nat_lt, mod-lt}
 use Rattle.std.specs.Option.{option_or}
 use Rattle.std.specs.List.{range_with_len}
@@ -30,7 +30,7 @@ use Rattle.tao_fresh.specs.FreshLaws.{CountsDones, DonesAreCounted, IsHonestScan
 use Rattle.tao_fresh.proofs.WrittenBuckets.{bucket_found, entries_found}
 use Rattle.tao_fresh.proofs.FreshCopies.{fresh_from}
 
--- ---- as many Dones as arrivals that are done
+-- ---- as many Dones as done arrivals
 
 counted : (o : Opening) (es : List Event) → FollowsLawfully o es → dones es ≡ count_below (is_done es) (arrived es)
 counted o [] f = refl
@@ -56,7 +56,7 @@ counts_from o es f = record {
 pub dones_are_counted : DonesAreCounted
 dones_are_counted o events f = counts_from o (reverse events) f
 
--- ---- past the tree nothing is written
+-- ---- nothing is written outside the tree
 
 past_range : (a n w : ℕ) → a + n ≤ w → has w (range_with_len a n) ≡ false
 past_range a n w past = false_from_ne_true (has w (range_with_len a n)) (λ on. let both = range_has a n w on in let high = both.1 in omega arith)

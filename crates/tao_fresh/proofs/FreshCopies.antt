@@ -38,9 +38,9 @@ use Rattle.tao_fresh.proofs.SettledMoves.{settled_real, settled_other, settled_a
 use Rattle.tao_fresh.proofs.WrittenBuckets.{entries_found, honest_from}
 use Rattle.tao_fresh.proofs.CleanNodes.{clean_from, departing_is_old, stays_held, unissued_entries}
 
--- ---- a fetch, over plain functions
+-- ---- a fetch, for plain functions
 
--- a fetch for block a: it is of the path of a's position; a alone has a new position and a new value, which is put
+-- a fetch for block a along the path of its position; only a has a new position and a new value
 pub record IsRealStep (at a : ℕ) (leaf leaf' : ℕ → ℕ) (value value' : ℕ → List ℕ) (x : List ℕ) : Type 0 where
   pub here : leaf a ≡ at
   pub changes : ChangesOne a leaf leaf' value value'
@@ -70,12 +70,12 @@ fetch_keeps_fresh false s at leaf leaf' value value' resident taken own newest a
 pub open_one : (o : Opening) (es : List Event) (i : ℕ) (taken : List Bucket) → MayBeDone o es i taken → is_real es i ≡ true → IsOpen es (block_on es i) i
 open_one o es i taken may real = record { arrived = may.arrived; on = real_on es i may.arrived real; real = real; under_way = may.under_way }
 
--- the positions of all blocks but those that a real fetch is for
+-- a Done keeps the positions of all blocks but the one that its real fetch is for
 position_kept : (o : Opening) (es : List Event) (i : ℕ) (taken : List Bucket) (b : ℕ) → (is_real es i && is_on es i b) ≡ false
     → position o (Done i taken ∷ es) b ≡ position o es b
 position_kept o es i taken b other = ap (λ t. leaf_at o es (cond t (o.shape.n + i) (position_word o es b))) other
 
--- what a real fetch finds is the settled value
+-- a real fetch finds the settled value
 pub found_settled : (o : Opening) (es : List Event) (i : ℕ) (taken : List Bucket) → FollowsLawfully o es → MayBeDone o es i taken → is_real es i ≡ true
     → IsHonest o.shape.l (fetched_leaf o es i) (λ w. is_resident o es w) (entries_at taken) (λ w. newest_entries o es w)
     → FreshCopy o.shape (λ b. position o es b) (λ b. settled_value o es b) (present o es)

@@ -49,7 +49,7 @@ writes_alike s leaf value filled newest newest' same fresh b low = either (fresh
       full = λ w on just. let P : List Entry → Type 0 = λ entries. (length entries ≡ s.z) × All (λ entry. entry.id < b) entries in subst P (same w) (none.full w on just);
     })
 
--- a fetch ends with the eviction of some contents
+-- a fetch ends with an eviction
 fetch_evicts : (real : Bool) (s : Shape) (at : ℕ) (leaf : ℕ → ℕ) (resident : ℕ → Bool) (taken own : ℕ → List Entry) (block : ℕ) (value : List ℕ)
     → (old : ℕ → List Entry) × IsEvicted s (path s.l at) leaf old (after_fetch real s at leaf resident taken own block value)
 fetch_evicts true s at leaf resident taken own block value =
@@ -63,7 +63,7 @@ due_now o es version nonce buckets may = may.due ∙ ap (λ v. v * o.shape.k) ma
 some_period : (o : Opening) (es : List Event) → FollowsLawfully o es → 0 < o.shape.k
 some_period o es f = let opening = follows_opening o es f in let shape : IsShape o.shape = opening.shape in let low = shape.period_low in omega arith
 
--- directly after a write-back, which stands directly after a Done
+-- right after a write-back, which comes right after a Done
 fresh_write_back : (o : Opening) (es : List Event) (version nonce : ℕ) (buckets : List Bucket) → FollowsLawfully o es → MayBeIssued o es version nonce buckets
     → AreAllClean (λ w. is_resident o es w) (λ w. held o es w) (λ w. newest_entries o (Issue version nonce buckets ∷ es) w)
     → FreshCopy o.shape (λ b. position o (Issue version nonce buckets ∷ es) b) (λ b. settled_value o (Issue version nonce buckets ∷ es) b) (present o (Issue version nonce buckets ∷ es))

@@ -1,4 +1,4 @@
--- What is found and answered is what the plain array replies. The events `es` are newest first.
+-- What is found and answered is the plain array's reply. The events `es` are newest first.
 use Rattle.std.proofs.Common.{◌≡◌, ℕ, ◌<◌, ◌≤◌, Bool, true, false, ◌||◌, cond, List, [], ◌∷◌, reverse, refl, sym, ap, ◌∙◌, subst, arith, inl, inr, ◌⊎◌, nat_eq}
 use Rattle.std.proofs.lemmas.Bool.{cases_lt, eq-eqb, eqb-true, true≢false}
 use Rattle.tao_base.specs.declared.calls.Op.{Op}

@@ -1,4 +1,4 @@
--- What each event makes of the settled values. The events `es` are newest first.
+-- How each event changes the settled values. The events `es` are newest first.
 use Rattle.std.proofs.Common.{◌≡◌, ℕ, zero, suc, ◌<◌, ◌≤◌, Bool, true, false, ◌&&◌, ◌||◌, cond, List, [], ◌∷◌, reverse, length, refl, sym, ap, ◌∙◌, arith, inl, inr, ◌⊎◌, nat_eq}
 use Rattle.std.proofs.lemmas.Bool.{cases_lt, lt-ltb, le-ltb, eq-eqb, ne_eqb, true≢false, and_from}
 use Rattle.tao_base.specs.declared.calls.Op.{Op}
@@ -24,7 +24,7 @@ use Rattle.tao_held.proofs.HeldAnswers.{op_at}
 use Rattle.tao_held.proofs.Blocks.{named_newest, on_below}
 use Rattle.tao_held.specs.Held.{op_value, value_since, value_between}
 
--- ---- a block has a real arrival under way, or it is quiet
+-- ---- a block has a real arrival under way or is quiet
 
 open_or_none : (on real finished : ℕ → Bool) (n : ℕ)
     → ((k : ℕ) × (k < n) × (on k ≡ true) × (real k ≡ true) × (finished k ≡ false)) ⊎ ((k : ℕ) → k < n → on k ≡ true → real k ≡ true → finished k ≡ true)
@@ -107,7 +107,7 @@ now_since o (Issue version nonce buckets ∷ es) block i low there on = now_sinc
 now_since o (Acked version ∷ es) block i low there on = now_since o es block i low there on
 now_since o (Fault cause ∷ es) block i low there on = now_since o es block i low there on
 
--- where arrival j hasn't come, all arrivals come before it
+-- before arrival j, all arrivals count
 between_low : (es : List Event) (block i j : ℕ) (v : List ℕ) → arrived es ≤ j → value_between es block i j v ≡ value_since es block i v
 between_low [] block i j v low = refl
 between_low (Arrive client op word ∷ es) block i j v low =

@@ -1,4 +1,4 @@
--- What was last written at the nodes, and what is taken in of them. The events `es` are newest first.
+-- The latest versions of the nodes, and the buckets fetched of them. The events `es` are newest first.
 use Rattle.std.proofs.Common.{◌≡◌, ℕ, ◌+◌, ◌<◌, Bool, true, false, not, cond, List, [], ◌∷◌, All, Option, Some, None, is_some, IfSome, refl, sym, ap, ◌∙◌, subst, arith, nat_eq}
 use Rattle.std.specs.Option.{option_or}
 use Rattle.std.proofs.lemmas.Bool.{eqb-true, true≢false, and_from}
@@ -19,7 +19,7 @@ use Rattle.tao_laws.proofs.RecentNodes.{bucket_in, fetched_in_tree}
 use Rattle.tao_contents.specs.FetchLaws.{IsHonest}
 use Rattle.tao_held.specs.Held.{newest_entries, entries_of_option}
 
--- a node's bucket is one of the list's, and of the node
+-- a node's bucket is in the list and has that node
 pub bucket_found : (Q : Bucket → Type 0) (node : ℕ) (buckets : List Bucket) → All Q buckets → (x : Bucket) → bucket_of node buckets ≡ Some x → Q x × (x.node ≡ node)
 bucket_found Q node [] all x is = absurd (true≢false (sym (ap is_some is)))
 bucket_found Q node (b ∷ buckets) all x is = either (nat_eq b.node node) refl is (λ later. bucket_found Q node buckets (All-tail Q b buckets all) x later)

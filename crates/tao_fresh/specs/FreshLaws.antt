@@ -1,4 +1,4 @@
--- Laws of a record that a proxy made: its write-backs are true. A record's events are oldest first, a list `es` is newest first.
+-- Laws of a proxy's record: its write-backs are true. A record's events are oldest first, a list `es` is newest first.
 use Rattle.std.specs.Prelude.{◌≡◌, ℕ, ◌<◌, ◌≤◌, ◌==◌, true, false, ◌&&◌, List, [], ◌∷◌, reverse, All}
 use Rattle.std.specs.List.{list_any}
 use Rattle.tao_base.specs.declared.calls.Op.{Op}
@@ -27,22 +27,22 @@ use Rattle.tao_held.specs.Held.{value_since, value_between, held, found_value, s
 
 -- ---- values
 
--- The Done of a real arrival settles its block's arrivals from it on; no other value moves.
+-- The Done of a real arrival settles its block's arrivals from it on. No other value changes.
 pub record MovesValues (o : Opening) (es now : List Event) (i : ℕ) : Type 0 where
   pub own : (block : ℕ) → is_real es i ≡ true → is_on es i block ≡ true → settled_value o now block ≡ value_since es block i (settled_value o es block)
   pub other : (block : ℕ) → (is_real es i && is_on es i block) ≡ false → settled_value o now block ≡ settled_value o es block
 
--- so it is at each Done that comes lawfully
+-- this holds for each Done that may come next
 abbrev pub SettledMoves : Type 0
 SettledMoves = (o : Opening) (events : List Event) (i : ℕ) (taken : List Bucket) → FollowsLawfully o (with_one_more events (Done i taken))
     → MovesValues o (reverse events) (with_one_more events (Done i taken)) i
 
--- an arrival that comes lawfully moves no value
+-- an arrival changes no value
 abbrev pub SettledStays : Type 0
 SettledStays = (o : Opening) (events : List Event) (client : ℕ) (op : Op) (word block : ℕ) → FollowsLawfully o (with_one_more events (Arrive client op word))
     → settled_value o (with_one_more events (Arrive client op word)) block ≡ settled_value o (reverse events) block
 
--- A later plain reply on a block is an earlier one after the operations between.
+-- A later plain reply on a block is the earlier one after the operations between.
 abbrev pub PlainBetween : Type 0
 PlainBetween = (o : Opening) (events : List Event) (block i j : ℕ) → FollowsLawfully o (reverse events) → i ≤ j → j < arrived (reverse events)
     → is_on (reverse events) i block ≡ true → is_on (reverse events) j block ≡ true
@@ -50,33 +50,33 @@ PlainBetween = (o : Opening) (events : List Event) (block i j : ℕ) → Follows
 
 -- ---- contents
 
--- What the proxy holds is as it was last written, but where it was touched since. Altered buckets change nothing here.
+-- A held node is as it was last written, unless it was touched since. This holds even if fetched buckets were altered.
 abbrev pub ResidentsAreClean : Type 0
 ResidentsAreClean = (o : Opening) (events : List Event) → IsOfProxy o (reverse events)
     → CleanResidents (λ w. is_resident o (reverse events) w) (λ w. is_recent o (reverse events) w) (λ w. held o (reverse events) w) (λ w. newest_entries o (reverse events) w)
 
--- what each node has now: the proxy's entries where it holds the node, as of the stash, and else those last written there
+-- the current contents of each node: the proxy's entries if it holds the node (and for the stash), else those last written
 abbrev pub present : Opening → List Event → ℕ → List Entry
 present o es = current_contents (λ w. is_resident o es w) (λ w. held o es w) (λ w. newest_entries o es w)
 
--- Where answers were honest, there is one copy of each block, with its settled value, in the stash or on the path of its position.
+-- If answers were honest, each block has one copy, with its settled value, in the stash or on the path of its position.
 abbrev pub CopiesAreFresh : Type 0
 CopiesAreFresh = (o : Opening) (events : List Event) → IsOfProxy o (reverse events) → Unaltered HasEntriesOf o (reverse events)
     → FreshCopy o.shape (λ b. position o (reverse events) b) (λ b. settled_value o (reverse events) b) (present o (reverse events))
 
--- Where answers were honest, what a real fetch found is its plain reply.
+-- If answers were honest, a real fetch found its plain reply.
 abbrev pub FoundIsPlain : Type 0
 FoundIsPlain = (o : Opening) (events : List Event) (i : ℕ) → IsOfProxy o (reverse events) → Unaltered HasEntriesOf o (reverse events)
     → is_done (reverse events) i ≡ true → is_real (reverse events) i ≡ true → found_value o (reverse events) i ≡ plain_reply o (reverse events) i
 
--- Where answers were honest, what a settled arrival is answered is its plain reply.
+-- If answers were honest, a settled arrival is answered its plain reply.
 abbrev pub AnswersAreRight : Type 0
 AnswersAreRight = (o : Opening) (events : List Event) (j : ℕ) → IsOfProxy o (reverse events) → Unaltered HasEntriesOf o (reverse events)
     → j < arrived (reverse events) → is_settled (reverse events) j ≡ true → served_answer o (reverse events) j ≡ plain_reply o (reverse events) j
 
 -- ---- what is written
 
--- the leaf whose path was taken in last; leaf 0 where none was
+-- the leaf of the last Done, or leaf 0
 abbrev pub last_leaf : Opening → List Event → ℕ
 last_leaf o [] = 0
 last_leaf o (Arrive client op word ∷ es) = last_leaf o es
@@ -85,7 +85,7 @@ last_leaf o (Issue version nonce buckets ∷ es) = last_leaf o es
 last_leaf o (Acked version ∷ es) = last_leaf o es
 last_leaf o (Fault cause ∷ es) = last_leaf o es
 
--- The load and each write-back were fresh writes when they were made. Just filled were, at the load, all nodes, and then the path evicted last.
+-- The load and each write-back were fresh writes when made. Just filled: all nodes at the load, later the path of the last eviction.
 abbrev pub FreshWritesOf : Opening → List Event → Type 0
 FreshWritesOf o [] = FreshWrites o.shape (λ b. position o [] b) (λ b. block_at o.first b) (λ w. true) (λ w. newest_entries o [] w)
 FreshWritesOf o (Arrive client op word ∷ es) = FreshWritesOf o es
@@ -96,28 +96,28 @@ FreshWritesOf o (Issue version nonce buckets ∷ es) = FreshWritesOf o es
 FreshWritesOf o (Acked version ∷ es) = FreshWritesOf o es
 FreshWritesOf o (Fault cause ∷ es) = FreshWritesOf o es
 
--- so they are in each record that a proxy made and whose answers were honest
+-- this holds for every proxy's record whose answers were honest
 abbrev pub WritesAreFresh : Type 0
 WritesAreFresh = (o : Opening) (events : List Event) → IsOfProxy o (reverse events) → Unaltered HasEntriesOf o (reverse events) → FreshWritesOf o (reverse events)
 
 -- ---- the final look
 
--- There are as many Dones as arrivals that are done. So where there are as many as arrivals, each is done.
+-- There are as many Dones as done arrivals. So if there are as many Dones as arrivals, all arrivals are done.
 pub record CountsDones (es : List Event) : Type 0 where
   pub count : dones es ≡ count_below (is_done es) (arrived es)
   pub within : dones es ≤ arrived es
   pub all : dones es ≡ arrived es → (i : ℕ) → i < arrived es → is_done es i ≡ true
 
--- so it is in each record that follows lawfully
+-- this holds for every record that follows lawfully
 abbrev pub DonesAreCounted : Type 0
 DonesAreCounted = (o : Opening) (events : List Event) → FollowsLawfully o (reverse events) → CountsDones (reverse events)
 
--- what a scan took in: each node of the tree that the proxy doesn't hold, as it was last written
+-- an honest scan reads each node of the tree that the proxy doesn't hold as it was last written
 pub record IsHonestScan (o : Opening) (es : List Event) (taken : List Bucket) : Type 0 where
   pub all : (w : ℕ) → 1 ≤ w → w ≤ node_count o.shape.l → is_resident o es w ≡ false → list_any (λ v. v == w) (nodes_in taken) ≡ true
   pub honest : All (λ bucket. bucket.entries ≡ newest_entries o es bucket.node) taken
 
--- When all is done and all nodes are seen, where answers were honest, what is seen is the plain array.
+-- When all is done and answers were honest, a scan of all nodes sees the plain array.
 abbrev pub ArrayIsSeen : Type 0
 ArrayIsSeen = (o : Opening) (events : List Event) (taken : List Bucket) (nodes : List ℕ) → IsOfProxy o (reverse events) → Unaltered HasEntriesOf o (reverse events)
     → dones (reverse events) ≡ arrived (reverse events) → IsHonestScan o (reverse events) taken → AreAllNodes o.shape.l nodes

@@ -1,5 +1,5 @@
-//! Laws of a record whose write-backs are true: clean nodes; and where no bucket that came in was altered, fresh copies, right answers, fresh writes.
-//! There is no code but the laws: functions with empty bodies whose contract is the law.
+//! Laws of a record whose write-backs are true: clean nodes and, if no fetched bucket was altered, fresh copies, right answers,
+//! fresh writes. The only code is laws: functions with empty bodies, whose contract is the law.
 #![tactic(auto)]
 
 mod answers;

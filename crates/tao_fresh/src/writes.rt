@@ -1,7 +1,7 @@
 //! Laws: what is written.
 ghost use Rattle.tao_fresh.specs.FreshLaws.{WritesAreFresh};
 
-/// Where answers were honest, the load and each write-back were fresh writes when they were made.
+/// If answers were honest, the load and each write-back were fresh writes when made.
 pub fn writes_are_fresh()
     ensures { WritesAreFresh }
 {}

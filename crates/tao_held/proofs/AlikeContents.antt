@@ -1,4 +1,4 @@
--- Contents that are equal node by node stay so. Node 0 is the stash.
+-- Contents that agree at every node still do after a fetch. Node 0 is the stash.
 use Rattle.std.proofs.Common.{◌≡◌, ℕ, ◌<◌, ◌≤◌, Bool, true, false, not, ◌&&◌, cond, List, [], ◌∷◌, Option, Some, None, is_some, refl, sym, ap, ◌∙◌, arith, inl, inr, ◌⊎◌, nat_eq}
 use Rattle.std.specs.Option.{option_or}
 use Rattle.std.proofs.lemmas.Bool.{cases_lt, cases_Bool, eq-eqb, ne_eqb, eqb-true, true≢false}
@@ -44,7 +44,7 @@ evicted_alike s path leaf leaf' old old' same leaves w = one_eviction s path lea
 
 -- ---- a whole fetch
 
--- no copy of a block past the store's
+-- a block with an id of n or more has no copy
 none_past : (n b : ℕ) (contents : ℕ → List Entry) (nodes : List ℕ) → AreIdsBelow n contents → n ≤ b → first_copy nodes contents b ≡ None
 none_past n b contents [] below past = refl
 none_past n b contents (w ∷ ws) below past = ap (λ x. option_or x (first_copy ws contents b)) (look_past n b (contents w) (below w) past) ∙ none_past n b contents ws below past
@@ -73,7 +73,7 @@ put_same own own' block value same w =
     ap (λ entries. cond (nat_eq w 0) (gather (entry_of block value ∷ []) entries) (own w)) (same 0)
     ∙ ap (cond (nat_eq w 0) (gather (entry_of block value ∷ []) (own' 0))) (same w)
 
--- a block that is gathered once one was put is that one or was there before
+-- after a put, every gathered block still has an id below n
 put_none : (n b block : ℕ) (value : List ℕ) (own : ℕ → List Entry) (nodes : List ℕ) → AreIdsBelow n own → block < n → is_some (first_copy nodes (put own block value) b) ≡ true → b < n
 put_none n b block value own nodes below low some = either (cases_lt b n)
   where

@@ -62,7 +62,7 @@ real_on (Issue version nonce buckets ∷ es) i there real = real_on es i there r
 real_on (Acked version ∷ es) i there real = real_on es i there real
 real_on (Fault cause ∷ es) i there real = real_on es i there real
 
--- an arrival that came lawfully is on a block of the store
+-- in a lawful record an arrival is on a block of the store
 pub on_below : (o : Opening) (es : List Event) (i block : ℕ) → FollowsLawfully o es → i < arrived es → is_on es i block ≡ true → block < o.shape.n
 on_below o [] i block f there on = absurd (omega arith)
 on_below o (Arrive client op word ∷ es) i block f there on = either (cases_lt i (arrived es)) (λ older. on_below o es i block f.0 older (sym (on_stays es (Arrive client op word) i block older) ∙ on))

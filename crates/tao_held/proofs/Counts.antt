@@ -30,7 +30,7 @@ count_full f (suc n) full i low = either (f n) refl full (cases_lt i n) (λ rest
     either true is h (inr last) ih = let at : i ≡ n = omega arith in ap f at ∙ is
     either false is h place ih = let low = within in absurd (omega arith)
 
--- one number more passes
+-- one more number passes
 pub count_more : (f : ℕ → Bool) (a n : ℕ) → a < n → f a ≡ false → count_below (λ i. nat_eq a i || f i) n ≡ count_below f n + 1
 count_more f a zero low off = absurd (omega arith)
 count_more f a (suc n) low off = either (cases_eq a n) (λ less. count_more f a n less off)
@@ -68,7 +68,7 @@ count_less f a (suc n) low on = either (cases_eq a n) (λ less. count_less f a n
         ap (λ t. cond (not t && f n) (count_below (λ i. not (nat_eq a i) && f i) n + 1) (count_below (λ i. not (nat_eq a i) && f i) n) + 1) (ne_eqb a n other)
         ∙ later (f n) (count_below (λ i. not (nat_eq a i) && f i) n) ∙ ap (λ c. cond (f n) (c + 1) c) (ih (omega (arith, other)))
 
--- some number passes where the count isn't 0
+-- some number passes exactly if the count isn't 0
 pub any_counts : (f : ℕ → Bool) (n : ℕ) → any_below f n ≡ not (nat_eq (count_below f n) 0)
 any_counts f zero = refl
 any_counts f (suc n) = either (f n) (any_counts f n)

@@ -1,4 +1,4 @@
--- Answers stay as they are, and are those of the plain operations. The events `es` are newest first.
+-- Answers don't change, and are those of the plain operations. The events `es` are newest first.
 use Rattle.std.proofs.Common.{◌≡◌, ℕ, ◌+◌, ◌<◌, ◌≤◌, Bool, true, false, ◌||◌, cond, List, [], ◌∷◌, ◌++◌, reverse, length, take, drop, set, refl, sym, ap, ◌∙◌, arith, inl, inr, ◌⊎◌, nat_eq}
 use Rattle.std.proofs.lemmas.Bool.{cases_lt, cases_eq, lt-ltb, le-ltb, eq-eqb, ne_eqb, true≢false}
 use Rattle.std.proofs.lemmas.List.{reverse-append, reverse-reverse, get_or-set_same, get_or-set_other, length-set, length_push, take-append-le, drop-append-le, drop_all, take_all, drop-take}
@@ -119,7 +119,7 @@ length_after : (xs : List (List ℕ)) (list : List Op) → length (array_after x
 length_after xs [] = refl
 length_after xs (op ∷ list) = length_after (array_step xs op) list ∙ length_step xs op
 
--- the operations of one more arrival
+-- the operations after one more arrival
 one_more_op : (es : List Event) (client : ℕ) (op : Op) (word : ℕ) → ops (reverse (Arrive client op word ∷ es)) ≡ ops (reverse es) ++ op ∷ []
 one_more_op es client op word = picked_more op_of es (Arrive client op word)
 

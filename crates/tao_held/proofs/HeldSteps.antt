@@ -1,4 +1,4 @@
--- What one more event makes of what is held. The events `es` are newest first.
+-- How one more event changes what is held. The events `es` are newest first.
 use Rattle.std.proofs.Common.{◌≡◌, ℕ, ◌<◌, Bool, true, false, not, ◌&&◌, ◌||◌, cond, List, [], ◌∷◌, reverse, refl, sym, ap, ◌∙◌, arith, nat_eq}
 use Rattle.std.proofs.lemmas.Bool.{ne_eqb, or_parts}
 use Rattle.tao_base.specs.declared.session.Event.{Event}
@@ -27,7 +27,7 @@ held_stays o events = record {
   fault = λ cause w. ap (λ es. held o es w) (newest_first events (Fault cause));
 }
 
--- a node off the path has what it had
+-- a node off the path keeps its entries
 either_off : (x y : Bool) → x ≡ false → y ≡ false → (x || y) ≡ false
 either_off true y e f = e
 either_off false y e f = f

@@ -3,5 +3,4 @@ pub mod Blocks
 pub mod Counts
 pub mod HeldAnswers
 pub mod HeldSteps
-pub mod UnalteredSenses
 pub mod WorkedHolds

@@ -1,4 +1,4 @@
--- Worked records, by computing.
+-- The worked records, by computing.
 use Rattle.std.proofs.Common.{◌≡◌, List, [], ◌∷◌, reverse, All, refl}
 use Rattle.std.proofs.lemmas.List.Elements.{All-nil, All-cons}
 use Rattle.tao_base.specs.declared.session.Event.{Event}
@@ -26,7 +26,7 @@ pub copies_that_count : CopiesThatCount
 unfolding held found_value served_answer
 copies_that_count = record { stash = refl; placed = refl; resident = refl; waits = refl }
 
--- whether each bucket has the entries that were held at its node, as a list of facts
+-- each bucket has the entries that were held at its node
 AreHeld : Opening → List Event → List Bucket → Type 0
 AreHeld o es [] = Unit {0}
 AreHeld o es (x ∷ xs) = (x.entries ≡ held o es x.node) × AreHeld o es xs

@@ -16,7 +16,7 @@ use Rattle.tao_model.specs.Evictions.{load_contents}
 use Rattle.tao_model.specs.Lawful.{FollowsLawfully, OpensWithLoad}
 use Rattle.tao_held.specs.Steps.{take_in, found_copy, value_or_zeros, after_real_fetch, after_fake_fetch}
 
--- ---- one block's value through operations
+-- ---- one block's value after operations
 
 -- the block that an operation is on, or 0 for a pad
 abbrev pub block_of : Op → ℕ
@@ -33,13 +33,13 @@ block_on (Issue version nonce buckets ∷ es) i = block_on es i
 block_on (Acked version ∷ es) i = block_on es i
 block_on (Fault cause ∷ es) i = block_on es i
 
--- what an operation makes of a block's value
+-- a block's value after an operation
 abbrev pub op_value : ℕ → Op → List ℕ → List ℕ
 op_value block (Read id) v = v
 op_value block (Write id value) v = if id == block then value else v
 op_value block Pad v = v
 
--- what the arrivals from number i on make of a block's value
+-- a block's value after the arrivals from number i on
 abbrev pub value_since : List Event → ℕ → ℕ → List ℕ → List ℕ
 value_since [] block i v = v
 value_since (Arrive client op word ∷ es) block i v = if nat_lt (arrived es) i then v else op_value block op (value_since es block i v)
@@ -48,7 +48,7 @@ value_since (Issue version nonce buckets ∷ es) block i v = value_since es bloc
 value_since (Acked version ∷ es) block i v = value_since es block i v
 value_since (Fault cause ∷ es) block i v = value_since es block i v
 
--- what the arrivals from number i up to before number j make of a block's value
+-- a block's value after the arrivals from number i up to, but not including, number j
 abbrev pub value_between : List Event → ℕ → ℕ → ℕ → List ℕ → List ℕ
 value_between [] block i j v = v
 value_between (Arrive client op word ∷ es) block i j v =
@@ -60,17 +60,17 @@ value_between (Fault cause ∷ es) block i j v = value_between es block i j v
 
 -- ---- what is held
 
--- what a fetched path makes of the contents: for its block where the arrival is real
+-- the contents after a fetched path; `real` says whether the fetch is for the block
 abbrev pub after_fetch : Bool → Shape → ℕ → (ℕ → ℕ) → (ℕ → Bool) → (ℕ → List Entry) → (ℕ → List Entry) → ℕ → List ℕ → ℕ → List Entry
 after_fetch true s at leaf resident taken own block value = after_real_fetch s at leaf resident taken own block value
 after_fetch false s at leaf resident taken own block value = after_fake_fetch s at leaf resident taken own
 
--- what the look-up finds of the block of an arrival whose path comes in, where the proxy had these contents
+-- what a look-up finds of the arrival's block after its path is admitted to these contents
 abbrev pub found_in : Opening → List Event → (ℕ → List Entry) → ℕ → List Bucket → List ℕ
 found_in o es own i taken = value_or_zeros o.shape
     (found_copy o.shape.l (fetched_leaf o es i) (take_in o.shape.l (fetched_leaf o es i) (λ w. is_resident o es w) (entries_at taken) own) (block_on es i))
 
--- what the Done of an arrival makes of the proxy's contents; the positions are those after it
+-- the proxy's contents after the Done of an arrival; the positions are those after it
 abbrev pub held_done : Opening → List Event → (ℕ → List Entry) → ℕ → List Bucket → ℕ → List Entry
 held_done o es own i taken = after_fetch (is_real es i) o.shape (fetched_leaf o es i) (λ block. position o (Done i taken ∷ es) block) (λ w. is_resident o es w)
     (entries_at taken) own (block_on es i) (value_since es (block_on es i) i (found_in o es own i taken))
@@ -86,7 +86,7 @@ held o (Fault cause ∷ es) w = held o es w
 
 -- ---- what is found and answered
 
--- what the look-up found of an arrival's block when its path came in
+-- what the look-up found of an arrival's block at its Done
 unfoldable pub found_value : Opening → List Event → ℕ → List ℕ
 found_value o [] i = []
 found_value o (Arrive client op word ∷ es) i = found_value o es i
@@ -95,22 +95,22 @@ found_value o (Issue version nonce buckets ∷ es) i = found_value o es i
 found_value o (Acked version ∷ es) i = found_value o es i
 found_value o (Fault cause ∷ es) i = found_value o es i
 
--- what a settled arrival is answered: what its settler's fetch found, after the operations from the settler on up to before the arrival; no bytes to a pad
+-- what a settled arrival is answered: the value its settler's fetch found, after the operations between; a pad gets no bytes
 unfoldable pub served_answer : Opening → List Event → ℕ → List ℕ
 served_answer o es j = if is_pad es j then [] else value_between es (block_on es j) (settler es j) j (found_value o es (settler es j))
 
 -- ---- what is written
 
--- a bucket's entries, none where there is no bucket
+-- a bucket's entries, none if there is no bucket
 abbrev pub entries_of_option : Option Bucket → List Entry
 entries_of_option None = []
 entries_of_option (Some bucket) = bucket.entries
 
--- the entries that were last written at a node
+-- the entries of a node's latest version
 abbrev pub newest_entries : Opening → List Event → ℕ → List Entry
 newest_entries o es w = entries_of_option (newest_write o es w)
 
--- True write-backs: each bucket that was written has the entries that the proxy held at its node.
+-- True write-backs: each written bucket has the entries that the proxy held at its node.
 abbrev pub WritesHeld : Opening → List Event → Type 0
 WritesHeld o [] = ⊤
 WritesHeld o (Arrive client op word ∷ es) = WritesHeld o es
@@ -119,7 +119,7 @@ WritesHeld o (Issue version nonce buckets ∷ es) = WritesHeld o es × All (λ b
 WritesHeld o (Acked version ∷ es) = WritesHeld o es
 WritesHeld o (Fault cause ∷ es) = WritesHeld o es
 
--- a record that a proxy made: it opens with the load, goes on lawfully, and its write-backs are true
+-- a proxy's record: it opens with the load, follows lawfully, and its write-backs are true
 pub record IsOfProxy (o : Opening) (es : List Event) : Type 0 where
   pub opens : OpensWithLoad o
   pub follows : FollowsLawfully o es

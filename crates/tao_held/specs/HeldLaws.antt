@@ -21,7 +21,7 @@ use Rattle.tao_model.specs.OneMore.{with_one_more}
 use Rattle.tao_held.specs.Steps.{entry_of}
 use Rattle.tao_held.specs.Held.{held, held_done, after_fetch, found_value, served_answer, value_since, value_between}
 
--- What one more event makes of what is held: only a Done changes entries, and an acknowledgement lets nodes go.
+-- How one more event changes what is held: only a Done changes entries, and an acknowledgement lets nodes go.
 pub record HeldMoves (o : Opening) (events : List Event) : Type 0 where
   pub arrive : (client : ℕ) (op : Op) (word : ℕ) (w : ℕ) → held o (with_one_more events (Arrive client op word)) w ≡ held o (reverse events) w
   pub done : (i : ℕ) (taken : List Bucket) (w : ℕ) → held o (with_one_more events (Done i taken)) w ≡ held_done o (reverse events) (λ v. held o (reverse events) v) i taken w
@@ -30,7 +30,7 @@ pub record HeldMoves (o : Opening) (events : List Event) : Type 0 where
       ≡ (if w == 0 || is_resident o (with_one_more events (Acked version)) w then held o (reverse events) w else [])
   pub fault : (cause : Cause) (w : ℕ) → held o (with_one_more events (Fault cause)) w ≡ held o (reverse events) w
 
--- so it is for every record
+-- this holds for every record
 abbrev pub HeldStays : Type 0
 HeldStays = (o : Opening) (events : List Event) → HeldMoves o events
 
@@ -38,45 +38,45 @@ HeldStays = (o : Opening) (events : List Event) → HeldMoves o events
 abbrev pub AwayIsEmpty : Type 0
 AwayIsEmpty = (o : Opening) (events : List Event) (w : ℕ) → 0 < w → is_resident o (reverse events) w ≡ false → held o (reverse events) w ≡ []
 
--- What a settled arrival is answered stays as it is.
+-- The answer of a settled arrival doesn't change.
 abbrev pub AnswersStay : Type 0
 AnswersStay = (o : Opening) (events later : List Event) (j : ℕ) → FollowsLawfully o (reverse (events ++ later)) → j < arrived (reverse events)
     → is_settled (reverse events) j ≡ true → served_answer o (reverse (events ++ later)) j ≡ served_answer o (reverse events) j
 
--- So does what was found for an arrival that is done.
+-- What was found for a done arrival doesn't change.
 abbrev pub FoundStays : Type 0
 FoundStays = (o : Opening) (events later : List Event) (i : ℕ) → FollowsLawfully o (reverse (events ++ later)) → is_done (reverse events) i ≡ true
     → found_value o (reverse (events ++ later)) i ≡ found_value o (reverse events) i
 
--- What the arrivals from number i on make of a value is what the plain array makes of it by their operations.
+-- The arrivals from number i on change a value as the plain array does by their operations.
 abbrev pub SinceIsFold : Type 0
 SinceIsFold = (events : List Event) (blocks : List (List ℕ)) (block i : ℕ) → block < length blocks
     → value_since (reverse events) block i (block_at blocks block) ≡ block_at (array_after blocks (drop i (ops events))) block
 
--- The same of k arrivals from number i on.
+-- The same for the k arrivals from number i on.
 abbrev pub BetweenIsFold : Type 0
 BetweenIsFold = (events : List Event) (blocks : List (List ℕ)) (block i k : ℕ) → block < length blocks
     → value_between (reverse events) block i (i + k) (block_at blocks block) ≡ block_at (array_after blocks (take k (drop i (ops events)))) block
 
--- ---- contents that are equal node by node
+-- ---- contents that agree at every node
 
--- an eviction depends on the contents and on the leaves of the blocks that are gathered alone
+-- an eviction depends only on the contents and on the leaves of the gathered blocks
 abbrev pub EvictedAlike : Type 0
 EvictedAlike = (s : Shape) (path : List ℕ) (leaf leaf' : ℕ → ℕ) (old old' : ℕ → List Entry) → ((w : ℕ) → old w ≡ old' w)
     → ((b : ℕ) → is_some (first_copy (0 ∷ path) old b) ≡ true → leaf b ≡ leaf' b) → (w : ℕ) → evicted s path leaf old w ≡ evicted s path leaf' old' w
 
--- the ids of all entries lie below n
+-- all ids are below n
 abbrev pub AreIdsBelow : ℕ → (ℕ → List Entry) → Type 0
 AreIdsBelow n contents = (w : ℕ) → All (λ entry. entry.id < n) (contents w)
 
--- So does a whole fetch. Where all entries are of the store's blocks, only the leaves of these count.
+-- A whole fetch too. If all entries are of the store's blocks, only these blocks' leaves count.
 abbrev pub FetchedAlike : Type 0
 FetchedAlike = (real : Bool) (s : Shape) (at : ℕ) (leaf leaf' : ℕ → ℕ) (resident resident' : ℕ → Bool) (taken own own' : ℕ → List Entry) (block : ℕ) (value : List ℕ)
     → ((b : ℕ) → b < s.n → leaf b ≡ leaf' b) → ((w : ℕ) → resident w ≡ resident' w) → ((w : ℕ) → own w ≡ own' w)
     → AreIdsBelow s.n taken → AreIdsBelow s.n own → (real ≡ true → block < s.n)
     → (w : ℕ) → after_fetch real s at leaf resident taken own block value w ≡ after_fetch real s at leaf' resident' taken own' block value w
 
--- Entries that differ from others by one block's value alone are those with it put.
+-- A list that differs in one block's value only is the old one with that value put.
 abbrev pub PutIsGathered : Type 0
 PutIsGathered = (b : ℕ) (value : List ℕ) (old new : List Entry) → Rises 0 old → Rises 0 new → look b new ≡ Some value
     → ((c : ℕ) → (c ≡ b → ⊥) → look c new ≡ look c old) → new ≡ gather (entry_of b value ∷ []) old

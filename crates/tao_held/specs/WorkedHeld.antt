@@ -11,11 +11,11 @@ use Rattle.tao_base.specs.Limits.{shape}
 use Rattle.tao_model.specs.Worked.{entry, zero, one_read, no_write_back_before_the_period, overlapping_requests, read_write_read, all_a, all_b, bucket, opening, history, full_path}
 use Rattle.tao_held.specs.Held.{held, found_value, served_answer, IsOfProxy}
 
--- the stash and the nodes up to this one, after so many events
+-- the stash and the nodes up to this one after so many events
 abbrev pub held_after : History → ℕ → ℕ → List (List Entry)
 held_after h count nodes = map (held h.opening (reverse (take count h.events))) (range_with_len 0 (nodes + 1))
 
--- the one read: before its Done nothing, then the block in the root, and nothing once it is acknowledged
+-- one read: first nothing, after the Done the block in the root, and nothing once it is acknowledged
 pub record OneReadHolds : Type 0 where
   pub before : held_after one_read 1 3 ≡ [] ∷ [] ∷ [] ∷ [] ∷ []
   pub fetched : held_after one_read 2 3 ≡ [] ∷ (entry 0 zero ∷ []) ∷ [] ∷ [] ∷ []
@@ -35,24 +35,24 @@ pub record WritesAreAnswered : Type 0 where
   pub one_by_one : map (served_answer read_write_read.opening (reverse read_write_read.events)) (range_with_len 0 3) ≡ all_a ∷ all_a ∷ all_b ∷ []
   pub at_once : map (served_answer overlapping_requests.opening (reverse overlapping_requests.events)) (range_with_len 0 3) ≡ all_a ∷ all_a ∷ all_a ∷ []
 
--- Two worked records are those of a proxy: their write-backs are true.
+-- Two worked records are a proxy's: their write-backs are true.
 pub record WorkedAreOfProxy : Type 0 where
   pub one_by_one : IsOfProxy read_write_read.opening (reverse read_write_read.events)
   pub at_once : IsOfProxy overlapping_requests.opening (reverse overlapping_requests.events)
 
--- A path whose leaf has another entry than was written there: block 3, which waits in the stash.
+-- The bucket of the leaf was altered: it has an entry of block 3, whose copy is in the stash.
 abbrev pub altered_path : List Event
 altered_path =
     Arrive 0 (Read 3) 3
     ∷ Done 0 (bucket 1 0 1 (entry 2 zero ∷ []) ∷ bucket 2 0 2 (entry 1 zero ∷ []) ∷ bucket 4 0 4 (entry 3 all_a ∷ []) ∷ []) ∷ []
 
--- The same path as it was written, and a word that leaves block 3 no place in a node.
+-- The same path as it was written; the new position leaves block 3 no free slot.
 abbrev pub waiting_path : List Event
 waiting_path =
     Arrive 0 (Read 3) 0
     ∷ Done 0 (bucket 1 0 1 (entry 2 zero ∷ []) ∷ bucket 2 0 2 (entry 1 zero ∷ []) ∷ bucket 4 0 4 (entry 0 zero ∷ []) ∷ []) ∷ []
 
--- Two reads of a block with a value, one after another, before anything is written back.
+-- Two reads of one block, one after another, with no write-back.
 abbrev pub read_again : History
 read_again = history
     (opening (shape 1 1 4 1 3 One) (0 ∷ []) (all_a ∷ [])
@@ -62,7 +62,7 @@ read_again = history
     ∷ Arrive 0 (Read 0) 0
     ∷ Done 1 (bucket 3 0 3 [] ∷ []) ∷ [])
 
--- The stash's copy counts, not that of an altered node; a node that is held isn't taken in again; what finds no place stays in the stash.
+-- The copy in the stash counts, a held node isn't fetched again, and a block without a free slot stays in the stash.
 pub record CopiesThatCount : Type 0 where
   pub stash : served_answer full_path.opening (reverse altered_path) 0 ≡ zero
   pub placed : held_after (history full_path.opening altered_path) 2 4 ≡ [] ∷ (entry 3 zero ∷ []) ∷ (entry 2 zero ∷ []) ∷ [] ∷ (entry 1 zero ∷ []) ∷ []

@@ -1,17 +1,17 @@
-//! Laws: contents that are equal node by node.
+//! Laws: contents that agree at every node.
 ghost use Rattle.tao_held.specs.HeldLaws.{EvictedAlike, FetchedAlike, PutIsGathered};
 
-/// An eviction depends on the contents and on the leaves of the gathered blocks alone.
+/// An eviction depends only on the contents and on the leaves of the gathered blocks.
 pub fn evicted_alike()
     ensures { EvictedAlike }
 {}
 
-/// So does a whole fetch.
+/// A whole fetch too.
 pub fn fetched_alike()
     ensures { FetchedAlike }
 {}
 
-/// Entries that differ by one block's value alone are those with it put.
+/// A list that differs in one block's value only is the old one with that value put.
 pub fn put_is_gathered()
     ensures { PutIsGathered }
 {}

@@ -1,22 +1,22 @@
-//! Laws: what is found and answered stays, and what operations make of a value.
+//! Laws: answers don't change, and what operations do to a value.
 ghost use Rattle.tao_held.specs.HeldLaws.{AnswersStay, FoundStays, SinceIsFold, BetweenIsFold};
 
-/// What a settled arrival is answered stays as it is.
+/// The answer of a settled arrival doesn't change.
 pub fn answers_stay()
     ensures { AnswersStay }
 {}
 
-/// So does what was found for an arrival that is done.
+/// What was found for a done arrival doesn't change.
 pub fn found_stays()
     ensures { FoundStays }
 {}
 
-/// What the arrivals from one on make of a value is what the plain array makes of it.
+/// The arrivals from one on change a value as the plain array does.
 pub fn since_is_fold()
     ensures { SinceIsFold }
 {}
 
-/// So is what the arrivals between two make of it.
+/// The arrivals between two do, too.
 pub fn between_is_fold()
     ensures { BetweenIsFold }
 {}

@@ -1,4 +1,4 @@
-//! Laws: what one more event makes of what the proxy holds.
+//! Laws: how one more event changes what the proxy holds.
 ghost use Rattle.tao_held.specs.HeldLaws.{HeldStays, AwayIsEmpty};
 
 /// Only a Done changes entries, and an acknowledgement lets nodes go.

@@ -1,5 +1,5 @@
-//! What the proxy holds after each event, as a function of the record.
-//! There is no code but the laws: functions with empty bodies whose contract is the law.
+//! What the proxy holds, finds and answers after each event, as functions of the record.
+//! The only code is laws: functions with empty bodies, whose contract is the law.
 #![tactic(auto)]
 
 mod alike;

@@ -16,12 +16,12 @@ pub fn writes_are_answered()
     ensures { WritesAreAnswered }
 {}
 
-/// Two worked records are those of a proxy.
+/// Two worked records are a proxy's.
 pub fn worked_are_of_proxy()
     ensures { WorkedAreOfProxy }
 {}
 
-/// The stash's copy counts, and a node that is held isn't taken in again.
+/// The copy in the stash counts, and a held node isn't fetched again.
 pub fn copies_that_count()
     ensures { CopiesThatCount }
 {}

@@ -1,4 +1,4 @@
--- What isn't held was acknowledged, and a fetch looks at nodes as they stood when it was asked. The events `es` and `later` are newest first.
+-- A node that isn't held was acknowledged, and a fetch reads it as it was at the request. `es` and `later` are newest first.
 use Rattle.std.proofs.Common.{◌≡◌, ℕ, ◌<◌, ◌≤◌, Bool, true, false, not, ◌&&◌, ◌||◌, cond, List, [], ◌∷◌, ◌++◌, reverse, is_some, refl, sym, ap, ◌∙◌, arith, inl, inr, ◌⊎◌, nat_eq}
 use Rattle.std.specs.Option.{option_or}
 use Rattle.std.proofs.lemmas.Bool.{eq-eqb, true≢false, and_cases, and_from, or_parts, or_left, or_right, not-false, not_from_false}
@@ -17,7 +17,7 @@ use Rattle.tao_model.proofs.LawfulToWhole.{earlier_follows}
 use Rattle.tao_laws.specs.Residents.{IsAcknowledged, AwayIsAcknowledged, IsAsAsked, AsItWasAsked, OneAnswerIsNewest}
 use Rattle.tao_laws.proofs.WrittenNodes.{issued_from, away_unwritten, leaves_parts, leaves_from}
 
--- ---- what isn't held was acknowledged
+-- ---- a node that isn't held was acknowledged
 
 acked_kept : (v a : ℕ) (acked : Bool) → (a ≡ 0) ⊎ (acked ≡ true) → (a ≡ 0) ⊎ ((nat_eq v a || acked) ≡ true)
 acked_kept v a acked (inl none) = inl none
@@ -44,9 +44,9 @@ acknowledged_from o (Fault cause ∷ es) node f away = acknowledged_from o es no
 pub away_is_acknowledged : AwayIsAcknowledged
 away_is_acknowledged o events node f away = acknowledged_from o (reverse events) node f away
 
--- ---- as it was asked
+-- ---- as it was at the request
 
--- what has stayed since a fetch was asked, that is under way, at a node of its path that isn't held
+-- what hasn't changed since the request of a fetch under way, at a node of its path that isn't held
 record HasStayed (o : Opening) (asked now : List Event) (node : ℕ) : Type 0 where
   away : is_resident o asked node ≡ false
   written : newest_write o now node ≡ newest_write o asked node
@@ -118,7 +118,7 @@ as_it_was_asked o before after client op word node =
 
 -- ---- the one right version
 
--- a newest version that isn't the load's was issued
+-- a latest version other than the load's was issued
 pub newest_issued : (es : List Event) (node : ℕ) → (newest_version es node ≡ 0) ⊎ (is_issued es (newest_version es node) node ≡ true)
 newest_issued [] node = inl refl
 newest_issued (Arrive client op word ∷ es) node = newest_issued es node

@@ -1,4 +1,4 @@
--- The places that are used and those that are used next are distinct. The events `es` are newest first.
+-- The places that arrivals use and the next places of the blocks are distinct. The events `es` are newest first.
 use Rattle.std.proofs.Common.{◌≡◌, ℕ, ◌+◌, ◌<◌, ◌≤◌, Bool, true, false, ◌&&◌, cond, List, [], ◌∷◌, reverse, refl, sym, ap, ◌∙◌, arith, inl, inr, ◌⊎◌}
 use Rattle.std.proofs.lemmas.Bool.{cases_lt, cases_eq, cases_order, eqb-true, eq-eqb, ne_eqb, true≢false}
 use Rattle.tao_base.specs.declared.calls.Op.{Op}
@@ -14,9 +14,9 @@ use Rattle.tao_model.proofs.OneMoreEvent.{word_for_fake, word_for_block}
 use Rattle.tao_model.proofs.Places.{word_for_below}
 use Rattle.tao_laws.specs.TapeWords.{AreInRange, LawfulIsInRange, AreDistinct, DistinctWords, WordsAreKnown}
 
--- ---- the two steps, over plain functions
+-- ---- the two steps, for plain functions
 
--- the n-th takes a new place
+-- arrival n takes a new place
 takes_new : (blocks n : ℕ) (used next taken now : ℕ → ℕ) → ((i : ℕ) → i < n → taken i ≡ used i) → taken n ≡ blocks + n → ((b : ℕ) → now b ≡ next b)
     → AreDistinct blocks n used next → AreDistinct blocks (n + 1) taken now
 takes_new blocks n used next taken now old new same d = record {
@@ -47,7 +47,7 @@ takes_new blocks n used next taken now old new same d = record {
     below i (inl older) there = let low = d.used_below i older in let at = old i older in omega arith
     below i (inr newest) there = let at : i ≡ n = omega arith in let is : taken i ≡ blocks + n = ap taken at ∙ new in omega arith
 
--- the n-th takes the next place of a block, and that block's next is a new one
+-- arrival n takes the next place of a block, and that block's next place is new
 takes_next : (blocks n a : ℕ) (used next taken now : ℕ → ℕ) → a < blocks → ((i : ℕ) → i < n → taken i ≡ used i) → taken n ≡ next a → now a ≡ blocks + n
     → ((b : ℕ) → (a ≡ b → ⊥) → now b ≡ next b) → AreDistinct blocks n used next → AreDistinct blocks (n + 1) taken now
 takes_next blocks n a used next taken now small old new moved same d = record {
@@ -175,7 +175,7 @@ lawful_is_in_range o events f = in_range o (reverse events) f
 pub distinct_words : DistinctWords
 distinct_words o events f = distinct_from o (reverse events) f
 
--- ---- words that are there
+-- ---- words on the tape
 
 pub known_from : (o : Opening) (es : List Event) (i : ℕ) → AreInRange o es → i < arrived es → word_used o es i ≤ o.shape.n + i
 known_from o [] i f h = absurd (omega arith)

@@ -1,4 +1,4 @@
--- Two plays of one schedule, the second with the first one's words moved, look the same to the server.
+-- Two plays of one schedule look the same to the server if the second has the first one's words moved.
 use Rattle.std.proofs.Common.{◌≡◌, ℕ, suc, ◌<◌, ◌≤◌, false, if◌then◌else◌, List, [], ◌∷◌, ◌++◌, reverse, length, take, drop, Option, Some, None, refl, sym, ap, ◌∙◌, subst, arith, inl, inr, ◌⊎◌}
 use Rattle.std.specs.List.{cons_option, flat_map}
 use Rattle.std.proofs.lemmas.Bool.{cases_lt, true≢false}
@@ -23,7 +23,7 @@ use Rattle.tao_laws.proofs.KindsAlone.{picked_back, same_steps}
 use Rattle.tao_laws.proofs.ToldTraces.{told, told_again, told_is, again_is, Fetches}
 use Rattle.tao_laws.proofs.Permutations.{same_arrived, permutation_is_one_to_one}
 
--- ---- the steps of a front; `es` are newest first
+-- ---- the steps of a prefix; `es` are newest first
 
 steps_long : (es : List Event) → has_fault es ≡ false → length (steps_of es) ≡ length es
 steps_long [] none = refl
@@ -58,7 +58,7 @@ steps_front o (e ∷ es) count f = rw (reverse-append (e ∷ []) es, filter_map-
         ap steps_of (take-append-le count (reverse es) (e ∷ []) (omega arith)) ∙ ih
         ∙ sym (take-append-le count (steps_of (reverse es)) (cons_option (step_of e) []) (omega (arith, long)))
 
--- a front of a record is lawful, and fetches the same leaves
+-- a prefix of a lawful record is lawful and fetches the same leaves
 record IsFront (o : Opening) (events front : List Event) : Type 0 where
   lawful : FollowsLawfully o (reverse front)
   fewer : arrived (reverse front) ≤ arrived (reverse events)

@@ -18,7 +18,7 @@ use Rattle.tao_laws.proofs.OpenArrivals.{one_open}
 
 -- ---- an arrival
 
--- an arrival that was open before
+-- an arrival that was already open before
 open_before : (es : List Event) (client : ℕ) (op : Op) (word block i : ℕ) → i < arrived es → IsOpen (Arrive client op word ∷ es) block i → IsOpen es block i
 open_before es client op word block i older h = record {
   arrived = older;
@@ -31,11 +31,11 @@ quiet_before : (es : List Event) (client : ℕ) (op : Op) (word block : ℕ) →
 quiet_before es client op word block quiet i there on real =
     quiet i (omega arith) (on_stays es (Arrive client op word) i block there ∙ on) (real_stays es (Arrive client op word) i there ∙ real)
 
--- where an arrival on the block is real, the block was quiet
+-- if an arrival on the block is real, the block was quiet
 pub was_quiet : (es : List Event) (op : Op) (block : ℕ) → real_now es op ≡ true → names block op ≡ true → IsQuiet es block
 was_quiet es op block real named = (free_means (is_on es) (is_real es) (is_done es) (arrived es) block op named).0 real
 
--- the newest arrival is open on a block where it is real and names it
+-- the newest arrival is open on a block if it is real and on it
 newest_open : (es : List Event) (client : ℕ) (op : Op) (word block i : ℕ) → i ≡ arrived es → IsOpen (Arrive client op word ∷ es) block i → (real_now es op ≡ true) × (names block op ≡ true)
 newest_open es client op word block i at h = (
   sym (real_newest es client op word) ∙ ap (is_real (Arrive client op word ∷ es)) (sym at) ∙ h.real,
@@ -73,7 +73,7 @@ hands_arrive o es client op word block f w = record {
         let both = newest_open es client op word block i at h in
         rw (and_from (real_now es op) (names block op) both.0 both.1) (ap (λ k. o.shape.n + k) (sym at))
 
-    -- where the block stays quiet, the new one isn't real on it: it isn't done yet
+    -- if the block stays quiet, the new arrival isn't real on it
     not_newest : IsQuiet (Arrive client op word ∷ es) block → (real_now es op && names block op) ≡ false
     not_newest quiet = false_from_ne_true (real_now es op && names block op) (λ is.
         let both = and_parts (real_now es op) (names block op) is in
@@ -96,7 +96,7 @@ hands_done o es arrival taken block there under_way w = record {
     this_open : (is_real es arrival && is_on es arrival block) ≡ true → IsOpen es block arrival
     this_open is = let both = and_parts (is_real es arrival) (is_on es arrival block) is in record { arrived = there; on = both.1; real = both.0; under_way = under_way }
 
-    -- where another is still open, this one wasn't real on the block
+    -- if another is still open, this one wasn't real on the block
     not_this : (i : ℕ) → IsOpen (Done arrival taken ∷ es) block i → (is_real es arrival && is_on es arrival block) ≡ false
     not_this i h = false_from_ne_true (is_real es arrival && is_on es arrival block) (λ is.
         let same = one_open es block arrival i (this_open is) (open_at_done es arrival taken block i h) in

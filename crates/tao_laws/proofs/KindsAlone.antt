@@ -1,4 +1,4 @@
--- Which arrivals are real, and the places they use, from the steps and the operations alone. The events `es`, steps and operations are newest first.
+-- The steps and operations determine which arrivals are real and the places they use. All lists are newest first.
 use Rattle.std.proofs.Common.{◌≡◌, ℕ, zero, suc, ◌+◌, Bool, not, ◌&&◌, ◌||◌, List, [], ◌∷◌, ◌++◌, reverse, Option, Some, None, refl, sym, ap, ◌∙◌, nat_eq}
 use Rattle.std.specs.List.{filter_map, cons_option}
 use Rattle.std.proofs.lemmas.List.{reverse-append, append-nil}
@@ -14,7 +14,7 @@ use Rattle.tao_model.specs.Replies.{op_of, ops}
 use Rattle.tao_model.specs.Shapes.{Step, asks, takes_in, writes, acknowledges, step_of, steps_of}
 use Rattle.tao_laws.specs.TwoPlays.{KindsNeedNoWord}
 
--- ---- what is picked from a list, from its end
+-- ---- what is picked from the end of a list
 
 pub picked_back : {Y : Type 0} (pick : Event → Option Y) (events : List Event) → filter_map pick (reverse events) ≡ reverse (filter_map pick events)
 picked_back pick [] = refl
@@ -26,7 +26,7 @@ picked_back {Y = Y} pick (e ∷ events) =
     either None = append-nil (reverse (filter_map pick events))
     either (Some y) = sym (reverse-append (y ∷ []) (filter_map pick events))
 
--- ---- the events with their words and contents left out
+-- ---- the events without words and contents
 
 abbrev bare_of : Event → Option Event
 bare_of (Arrive client op word) = Some (Arrive client op 0)
@@ -66,7 +66,7 @@ any_same : (passes tests : ℕ → Bool) → ((i : ℕ) → passes i ≡ tests i
 any_same passes tests same zero = refl
 any_same passes tests same (suc n) = rw (same n, any_same passes tests same n) refl
 
--- whether an operation would be real, from the tests alone
+-- whether an operation would be real, from the tests only
 free_same : (on on_too : ℕ → ℕ → Bool) (real real_too finished finished_too : ℕ → Bool) (n : ℕ) (op : Op) → ((i block : ℕ) → on i block ≡ on_too i block)
     → ((i : ℕ) → real i ≡ real_too i) → ((i : ℕ) → finished i ≡ finished_too i) → is_free on real finished n op ≡ is_free on_too real_too finished_too n op
 free_same on on_too real real_too finished finished_too n op on_same real_same finished_same = either op
@@ -96,7 +96,7 @@ real_bare (Fault cause ∷ es) i = real_bare es i
 now_bare : (es : List Event) (op : Op) → real_now (bare es) op ≡ real_now es op
 now_bare es op = now_from es (λ i. real_bare es i) op
 
--- the openings have as many blocks
+-- openings with equally many blocks
 next_bare : (o other : Opening) → o.shape.n ≡ other.shape.n → (es : List Event) (block : ℕ) → next_word o (bare es) block ≡ next_word other es block
 next_bare o other same [] block = refl
 next_bare o other same (Arrive client op word ∷ es) block = rw (now_bare es op, arrived_bare es, next_bare o other same es block, same) refl
@@ -110,7 +110,7 @@ word_for_same next next_too new real (Read id) same = rw (same id) refl
 word_for_same next next_too new real (Write id value) same = rw (same id) refl
 word_for_same next next_too new real Pad same = refl
 
--- what a new arrival would use
+-- the word that a new arrival would use
 word_bare : (o other : Opening) → o.shape.n ≡ other.shape.n → (es : List Event) (op : Op)
     → word_for (next_word o (bare es)) (o.shape.n + arrived (bare es)) (real_now (bare es) op) op ≡ word_for (next_word other es) (other.shape.n + arrived es) (real_now es op) op
 word_bare o other same es op =
@@ -125,7 +125,7 @@ used_bare o other same (Issue version nonce buckets ∷ es) i = used_bare o othe
 used_bare o other same (Acked version ∷ es) i = used_bare o other same es i
 used_bare o other same (Fault cause ∷ es) i = used_bare o other same es i
 
--- ---- these events, told from the steps and the operations
+-- ---- these events, rebuilt from the steps and the operations
 
 abbrev weave : List Step → List Op → List Event
 weave [] ops = []
@@ -143,7 +143,7 @@ woven (Issue version nonce buckets ∷ es) = ap (λ l. Issue version 0 [] ∷ l)
 woven (Acked version ∷ es) = ap (λ l. Acked version ∷ l) (woven es)
 woven (Fault cause ∷ es) = woven es
 
--- the steps, from the newest back
+-- the steps, starting from the newest
 pub same_steps : (events others : List Event) → steps_of events ≡ steps_of others → steps_of (reverse events) ≡ steps_of (reverse others)
 same_steps events others steps = picked_back step_of events ∙ ap reverse steps ∙ sym (picked_back step_of others)
 

@@ -5,7 +5,7 @@ use Rattle.std.proofs.lemmas.Bool.{ne_eqb, eq-eqb, eqb-true, cases_eq, true≢fa
 use Rattle.tao_model.proofs.FallingPaths.{has}
 use Rattle.tao_laws.specs.TwoPlays.{IsOneToOne}
 
--- ---- what is in a filter and a range
+-- ---- filters and ranges
 
 pub has_filter : (passes : ℕ → Bool) (w : ℕ) (nodes : List ℕ) → has w (filter passes nodes) ≡ (passes w && has w nodes)
 has_filter passes w [] = either (passes w)
@@ -83,7 +83,7 @@ once_range a (suc n) = (
   once_range (a + 1) n,
 )
 
--- a value of a function over a range is that at some number of it
+-- a value of a function over a range is its value at some number of the range
 pub image_has : (f : ℕ → ℕ) (a n w : ℕ) → has w (map f (range_with_len a n)) ≡ true → (i : ℕ) × (a ≤ i) × (i < a + n) × (f i ≡ w)
 image_has f a zero w h = absurd (true≢false (sym h))
 image_has f a (suc n) w h = either (or_cases (nat_eq (f a) w) (has w (map f (range_with_len (a + 1) n))) h) (λ later. image_has f (a + 1) n w later)
@@ -105,7 +105,7 @@ once_image f a (suc n) apart = (
   once_image f (a + 1) n (λ i j low less high. apart i j (omega arith) less (omega arith)),
 )
 
--- ---- how long a list is that has each number below n once
+-- ---- the length of a list that has each number below n once
 
 abbrev without : ℕ → List ℕ → List ℕ
 without v xs = filter (λ u. not (nat_eq u v)) xs
@@ -185,7 +185,7 @@ pub record IsListing (n : ℕ) (xs : List ℕ) : Type 0 where
   pub below : (w : ℕ) → has w xs ≡ true → w < n
   pub all : (w : ℕ) → w < n → has w xs ≡ true
 
--- the number of one list at the place that a number has in the other
+-- the number of the second list at the place that a number has in the first
 abbrev pub across : List ℕ → List ℕ → ℕ → ℕ
 across xs ys v = get_or ys (place_in xs v) 0
 

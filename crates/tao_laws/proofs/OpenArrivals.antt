@@ -17,9 +17,9 @@ use Rattle.tao_model.proofs.RealArrivals.{earlier_done, on_newest}
 use Rattle.tao_model.proofs.LastReal.{settler_is_last}
 use Rattle.tao_laws.specs.OpenRequests.{IsOpen, IsQuiet, OneReal, IsQueueFrom, QueueOfBlock, QuietIsSettled, ReleasedIsSettled}
 
--- ---- one real
+-- ---- at most one real arrival is open
 
--- an open arrival has no later real one on its block
+-- no later arrival on the block of an open one is real
 open_is_last : (es : List Event) (block i j : ℕ) → IsOpen es block i → i < j → j < arrived es → is_on es j block ≡ true → is_real es j ≡ true → ⊥
 open_is_last es block i j h less there on real = true≢false (sym (earlier_done es j i block there on real less h.on h.real) ∙ h.under_way)
 
@@ -89,13 +89,13 @@ pad_or_on (Fault cause ∷ es) i there = pad_or_on es i there
 
 -- ---- what settles an arrival
 
--- the settler, in words: a real arrival on the block up to this one, and none between
+-- the settler is real and on the block, and no real arrival on the block is between
 pub settles : (es : List Event) (j block : ℕ) → j < arrived es → is_on es j block ≡ true → IsLast (is_real_on es block) (j + 1) (Some (settler es j))
 settles es j block there on =
     subst (λ l. IsLast (is_real_on l block) (j + 1) (Some (settler l j))) (reverse-reverse es)
     (settler_is_last (reverse es) j block (subst (λ l. j < arrived l) (sym (reverse-reverse es)) there) (subst (λ l. is_on l j block ≡ true) (sym (reverse-reverse es)) on))
 
--- a settler is real, and on the block
+-- a settler is real and on the block
 pub settler_real_on : (es : List Event) (j block : ℕ) → j < arrived es → is_on es j block ≡ true → (is_real es (settler es j) ≡ true) × (is_on es (settler es j) block ≡ true)
 settler_real_on es j block there on = and_parts (is_real es (settler es j)) (is_on es (settler es j) block) (settles es j block there on).1
 

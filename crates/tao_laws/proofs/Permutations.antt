@@ -50,7 +50,7 @@ places_listed o es f = record {
     there w low (inr new) =
         or_right (has w (used_places o es)) (has w (unused_places o es)) (unused_has w ∙ rw new (has_range 0 (o.shape.n + arrived es) w (omega arith) (omega arith)))
 
--- the i-th of all places is that of arrival i
+-- place i of all places is the one that arrival i uses
 used_at : (o : Opening) (es : List Event) (i : ℕ) → i < arrived es → (i < length (all_places o es)) × (get_or (all_places o es) i 0 ≡ word_used o es i)
 used_at o es i there =
     let long = length-map-range_with_len (word_used o es) 0 (arrived es) in

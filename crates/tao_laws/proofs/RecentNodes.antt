@@ -1,4 +1,4 @@
--- What was touched since the last write-back is held, and is what the next one has. The events `es` are newest first.
+-- Nodes touched since the last write-back are held, and the next write-back has just them. The events `es` are newest first.
 use Rattle.std.proofs.Common.{◌≡◌, ℕ, ◌+◌, ◌*◌, ◌^◌, ◌<◌, ◌≤◌, Bool, true, false, not, ◌&&◌, ◌||◌, cond, List, [], ◌∷◌, reverse, Some, is_some, refl, sym, ap, ◌∙◌, arith, nat_eq, nat_lt, mul-le-mul_right}
 use Rattle.std.specs.List.{range_with_len}
 use Rattle.std.proofs.Math.Nat.{mod-lt}
@@ -30,14 +30,14 @@ touch_within o (Issue version nonce buckets ∷ es) node = touch_within o es nod
 touch_within o (Acked version ∷ es) node = touch_within o es node
 touch_within o (Fault cause ∷ es) node = touch_within o es node
 
--- ---- recent is resident
+-- ---- recent nodes are resident
 
 done_step : (r t : Bool) (n m last : ℕ) → (m < last → r ≡ true) → m < cond t (n + 1) last → (r || t) ≡ true
 done_step true t n m last h more = refl
 done_step false true n m last h more = refl
 done_step false false n m last h more = h more
 
--- an acknowledgement, where `at` is the end of the period that its version ends
+-- an acknowledgement; `at` is the end of its version's period
 acked_step : (r issued covered : Bool) (at m last : ℕ) → (m < last → r ≡ true) → at ≤ m → m < last → (r && not (issued && (not (nat_lt at last) && not covered))) ≡ true
 acked_step r false covered at m last h le more = rw (h more) refl
 acked_step r true covered at m last h le more = rw (h more, lt-ltb at last (omega arith)) refl
@@ -106,7 +106,7 @@ has_touched o es number node = has_filter (λ w. nat_lt number (last_touch o es 
         has_range 1 (node_count o.shape.l) node (omega arith) (omega arith)
     either false is = refl
 
--- whether a write-back has a node, in words of its last touch
+-- whether a write-back has a node, by the node's last touch
 pub written_where_recent : (o : Opening) (es : List Event) (version nonce : ℕ) (buckets : List Bucket) (node : ℕ) → MayBeIssued o es version nonce buckets
     → is_some (bucket_of node buckets) ≡ nat_lt (issues es * o.shape.k) (last_touch o es node)
 written_where_recent o es version nonce buckets node m = bucket_in node buckets ∙ ap (has node) m.nodes ∙ has_touched o es (issues es * o.shape.k) node

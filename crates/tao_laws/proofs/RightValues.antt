@@ -1,4 +1,4 @@
--- The settled value of a block against the plain array. The events `es` are newest first.
+-- The settled value of a block and the plain array. The events `es` are newest first.
 use Rattle.std.proofs.Common.{◌≡◌, ℕ, ◌<◌, ◌≤◌, Bool, true, false, cond, List, [], ◌∷◌, reverse, length, set, refl, sym, ap, ◌∙◌, arith, inl, inr, ◌⊎◌, nat_lt}
 use Rattle.std.proofs.lemmas.Bool.{cases_lt, cases_eq, lt-ltb, le-ltb, eqb-true, eq-eqb, true≢false}
 use Rattle.std.proofs.lemmas.List.{length-set, get_or-set_same, get_or-set_other, get_or_past}
@@ -45,7 +45,7 @@ step_other xs block (Read id) h = refl
 step_other xs block (Write id value) h = get_or-set_other xs id block value [] (λ same. true≢false (sym (eq-eqb id block (sym same)) ∙ h))
 step_other xs block Pad h = refl
 
--- an operation on another block, taken or not
+-- an operation on another block, whether it passes or not
 either_other : (t : Bool) (xs : List (List ℕ)) (block : ℕ) (op : Op) → names block op ≡ false → block_at (cond t (array_step xs op) xs) block ≡ block_at xs block
 either_other true xs block op h = step_other xs block op h
 either_other false xs block op h = refl
@@ -77,7 +77,7 @@ length_now o (Issue version nonce buckets ∷ es) = length_now o es
 length_now o (Acked version ∷ es) = length_now o es
 length_now o (Fault cause ∷ es) = length_now o es
 
--- ---- where all arrivals on a block pass
+-- ---- if all arrivals on a block pass
 
 all_pass : (passes : ℕ → Bool) (o : Opening) (es : List Event) (block : ℕ) → ((j : ℕ) → j < arrived es → is_on es j block ≡ true → passes j ≡ true)
     → block_at (array_where passes o es) block ≡ block_at (array_now o es) block
@@ -95,7 +95,7 @@ all_pass passes o (Issue version nonce buckets ∷ es) block h = all_pass passes
 all_pass passes o (Acked version ∷ es) block h = all_pass passes o es block h
 all_pass passes o (Fault cause ∷ es) block h = all_pass passes o es block h
 
--- ---- where just the arrivals on a block before one of them pass
+-- ---- if exactly the arrivals on a block before one of them pass
 
 earlier_pass : (passes : ℕ → Bool) (o : Opening) (es : List Event) (block i : ℕ) → i < arrived es → is_on es i block ≡ true
     → ((j : ℕ) → j < arrived es → is_on es j block ≡ true → passes j ≡ nat_lt j i) → block_at (array_where passes o es) block ≡ plain_reply o es i

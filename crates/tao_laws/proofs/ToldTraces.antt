@@ -1,4 +1,4 @@
--- A lawful record's requests, told from its steps and the leaves of its fetches. Events and steps are newest first.
+-- A lawful record's requests, from its steps and the leaves of its fetches. Events and steps are newest first.
 use Rattle.std.proofs.Common.{◌≡◌, ℕ, ◌+◌, ◌*◌, ◌<◌, cond, List, [], ◌∷◌, ◌++◌, filter, length, refl, sym, ap, ◌∙◌, arith, nat_eq, nat_lt}
 use Rattle.std.specs.List.{range_with_len}
 use Rattle.std.proofs.lemmas.List.{length-map}
@@ -19,7 +19,7 @@ use Rattle.tao_model.specs.Lawful.{FollowsLawfully, MayBeIssued}
 use Rattle.tao_model.specs.Shapes.{Step, asks, takes_in, writes, acknowledges, steps_of}
 use Rattle.tao_model.proofs.Places.{leaf_stays_later}
 
--- ---- told from the steps, where `leaf` has the leaf of each fetch
+-- ---- requests rebuilt from the steps; `leaf` gives the leaf of each fetch
 
 abbrev pub asked : List Step → ℕ
 asked [] = 0
@@ -49,7 +49,7 @@ touch s leaf (takes_in arrival ∷ steps) node = cond (is_on_path s.l (leaf arri
 touch s leaf (writes version ∷ steps) node = touch s leaf steps node
 touch s leaf (acknowledges version ∷ steps) node = touch s leaf steps node
 
--- the nodes of a write-back that comes next
+-- the nodes of the next write-back
 abbrev due_nodes : Shape → (ℕ → ℕ) → List Step → List ℕ
 due_nodes s leaf steps = filter (λ node. nat_lt (written steps * s.k) (touch s leaf steps node)) (range_with_len 1 (node_count s.l))
 
@@ -78,7 +78,7 @@ told_again s leaf (writes version ∷ steps) v =
     cond (nat_eq version v) (Again version (first_nonce s leaf steps) (due_nodes s leaf steps) ∷ []) (told_again s leaf steps v)
 told_again s leaf (acknowledges version ∷ steps) v = told_again s leaf steps v
 
--- ---- what a record is, is what its steps tell
+-- ---- the record agrees with what is rebuilt from its steps
 
 pub asked_is : (es : List Event) → arrived es ≡ asked (steps_of es)
 asked_is [] = refl
@@ -115,7 +115,7 @@ arrived_more (Issue version nonce buckets) es i h = h
 arrived_more (Acked version) es i h = h
 arrived_more (Fault cause) es i h = h
 
--- and fetched them one event ago
+-- the same before the newest event
 earlier_fetches : (o : Opening) (e : Event) (es : List Event) (leaf : ℕ → ℕ) → FollowsLawfully o es → Fetches o (e ∷ es) leaf → Fetches o es leaf
 earlier_fetches o e es leaf f same i h = sym (leaf_stays_later o (e ∷ []) es i f h) ∙ same i (arrived_more e es i h)
 

@@ -1,4 +1,4 @@
--- A node's version follows from its last touch, and a node that isn't held has the version that was acknowledged. The events `es` are newest first.
+-- A node's last touch determines its version; a node that isn't held has the acknowledged one. `es` are newest first.
 use Rattle.std.proofs.Common.{◌≡◌, ℕ, ◌+◌, ◌-◌, ◌*◌, ◌/◌, ◌<◌, ◌≤◌, Bool, true, false, not, ◌&&◌, ◌||◌, cond, List, [], ◌∷◌, reverse, Option, Some, None, is_some, refl, sym, ap, ◌∙◌, subst, arith, inl, inr, ◌⊎◌, nat_eq, nat_lt, mul-le-mul_right}
 use Rattle.std.specs.Option.{option_or}
 use Rattle.std.specs.Int.{div_ceil}
@@ -20,7 +20,7 @@ use Rattle.tao_model.proofs.LawfulToWhole.{paced, follows_opening}
 use Rattle.tao_laws.specs.Residents.{PeriodsAreCounted, WrittenAfterTouch, ExactVersion, WritesResidents, IssuedIsResident, AwayIsWritten, UntouchedSince, LeavesAcknowledged}
 use Rattle.tao_laws.proofs.RecentNodes.{touch_within, recent_from, written_where_recent}
 
--- ---- the version against the touch, of one node: m write-backs were issued
+-- ---- version and touch of one node; m write-backs were issued
 
 record IsWritten (m k touch version : ℕ) : Type 0 where
   known : version ≤ m
@@ -30,7 +30,7 @@ record IsWritten (m k touch version : ℕ) : Type 0 where
 none_written : (k : ℕ) → IsWritten 0 k 0 0
 none_written k = record { known = omega arith; after = λ u less. absurd (omega arith); exact = inl (omega arith) }
 
--- the Done of number n + 1, where `t` says whether it touches the node
+-- the Done of number n + 1; `t` says whether it touches the node
 written_done : (t : Bool) (m k n touch version : ℕ) → m * k ≤ n → touch ≤ n → IsWritten m k touch version → IsWritten m k (cond t (n + 1) touch) version
 written_done false m k n touch version paced within w = w
 written_done true m k n touch version paced within w = record {
@@ -39,7 +39,7 @@ written_done true m k n touch version paced within w = record {
   exact = inr (omega arith);
 }
 
--- a write-back at the end of its period, where `t` says whether it has the node
+-- a write-back at the end of its period; `t` says whether it has the node
 written_issue : (t : Bool) (m k v touch version : ℕ) → v ≡ m + 1 → touch ≤ v * k → t ≡ nat_lt (m * k) touch → IsWritten m k touch version → IsWritten (m + 1) k touch (cond t v version)
 written_issue true m k v touch version next within is w =
     let recent : m * k < touch = ltb-true (m * k) touch (sym is) in
@@ -70,7 +70,7 @@ written_from o (Issue version nonce buckets ∷ es) node f =
 written_from o (Acked version ∷ es) node f = written_from o es node f.0
 written_from o (Fault cause ∷ es) node f = written_from o es node f.0
 
--- ---- a version that was issued for a node
+-- ---- a version issued for a node
 
 issued_step : (t earlier : Bool) (u v m newest : ℕ) → u ≡ m + 1 → newest ≤ m → ((nat_eq u v && t) || earlier) ≡ true → (earlier ≡ true → (0 < v) × (v ≤ newest))
     → (0 < v) × (v ≤ cond t u newest)
@@ -158,7 +158,7 @@ exact_version o events node f = record {
     is_recent beyond (inl h) = absurd (omega arith)
     is_recent beyond (inr recent) = recent
 
--- ---- how many write-backs
+-- ---- the number of write-backs
 
 full_periods : (k m n : ℕ) → 0 < k → m * k ≤ n → n < (m + 1) * k → m ≡ n / k
 full_periods k m n some low high =
@@ -186,9 +186,9 @@ periods_are_counted o events f = record {
     some : 0 < o.shape.k
     some = let low = shape.period_low in omega arith
 
--- ---- a write-back and the nodes that aren't held
+-- ---- write-backs and nodes that aren't held
 
--- a node that isn't held isn't in a write-back
+-- a write-back has no node that isn't held
 pub away_unwritten : (o : Opening) (es : List Event) (version nonce : ℕ) (buckets : List Bucket) (node : ℕ) → FollowsLawfully o es → MayBeIssued o es version nonce buckets
     → is_resident o es node ≡ false → bucket_of node buckets ≡ None
 away_unwritten o es version nonce buckets node f m away = either (bucket_of node buckets) refl
@@ -217,7 +217,7 @@ pub issued_is_resident : IssuedIsResident
 issued_is_resident o events version nonce buckets node =
     rw (newest_first events (Issue version nonce buckets)) (λ f. writes_residents o (reverse events) version nonce buckets node f.0 f.2)
 
--- ---- what isn't held, and what leaves
+-- ---- nodes that aren't held, and nodes that leave
 
 pub away_is_written : AwayIsWritten
 away_is_written o events node f away = either w.exact
@@ -241,7 +241,7 @@ untouched_from o es version node f issued old = either (cases_lt version (newest
 pub untouched_since : UntouchedSince
 untouched_since o events version node f issued old = untouched_from o (reverse events) version node f issued old
 
--- what it takes to leave
+-- the conditions for leaving
 pub leaves_parts : (o : Opening) (es : List Event) (version node : ℕ) → departs o es version node ≡ true
     → (is_issued es version node ≡ true) × (last_touch o es node ≤ version * o.shape.k) × (is_covered o es node ≡ false)
 leaves_parts o es version node h =

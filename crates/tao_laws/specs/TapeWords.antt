@@ -7,7 +7,7 @@ use Rattle.tao_model.specs.Events.{arrived}
 use Rattle.tao_model.specs.Requests.{next_word, word_used}
 use Rattle.tao_model.specs.Lawful.{FollowsLawfully, IsInRange}
 
--- Each operation is one that the store takes. The events are newest first.
+-- The store accepts each operation. The events are newest first.
 abbrev pub AreInRange : Opening → List Event → Type 0
 AreInRange o [] = ⊤
 AreInRange o (Arrive client op word ∷ es) = AreInRange o es × IsInRange o.shape op
@@ -16,11 +16,11 @@ AreInRange o (Issue version nonce buckets ∷ es) = AreInRange o es
 AreInRange o (Acked version ∷ es) = AreInRange o es
 AreInRange o (Fault cause ∷ es) = AreInRange o es
 
--- A record that follows lawfully has such operations alone.
+-- In a record that follows lawfully, all operations are in range.
 abbrev pub LawfulIsInRange : Type 0
 LawfulIsInRange = (o : Opening) (events : List Event) → FollowsLawfully o (reverse events) → AreInRange o (reverse events)
 
--- The places that n arrivals use and the next places of the blocks are pairwise distinct, and there.
+-- The places that n arrivals use and the next places of the blocks are pairwise distinct and on the tape.
 pub record AreDistinct (blocks n : ℕ) (used next : ℕ → ℕ) : Type 0 where
   pub used_once : (i j : ℕ) → i < j → j < n → used i ≢ used j
   pub next_once : (b c : ℕ) → b < c → c < blocks → next b ≢ next c
@@ -28,12 +28,12 @@ pub record AreDistinct (blocks n : ℕ) (used next : ℕ → ℕ) : Type 0 where
   pub used_below : (i : ℕ) → i < n → used i < blocks + n
   pub next_below : (b : ℕ) → b < blocks → next b < blocks + n
 
--- Where the operations are in range, the places that arrivals use and the next places of the blocks are so distinct.
+-- This holds if the operations are in range.
 abbrev pub DistinctWords : Type 0
 DistinctWords = (o : Opening) (events : List Event) → AreInRange o (reverse events)
     → AreDistinct o.shape.n (arrived (reverse events)) (word_used o (reverse events)) (next_word o (reverse events))
 
--- An arrival uses a word that is there when it comes: its own, or an earlier one.
+-- An arrival's word is on the tape when it comes: its own word or an earlier one.
 abbrev pub WordsAreKnown : Type 0
 WordsAreKnown = (o : Opening) (events : List Event) (i : ℕ) → AreInRange o (reverse events) → i < arrived (reverse events)
     → word_used o (reverse events) i ≤ o.shape.n + i

@@ -1,5 +1,5 @@
-//! Laws over every lawful record, with any contents: residence, requests and their words, and two plays of one schedule.
-//! There is no code but the laws: functions with empty bodies whose contract is the law.
+//! Laws of every lawful record, whatever its contents: residence, requests and their words, and two plays of one schedule.
+//! The only code is laws: functions with empty bodies, whose contract is the law.
 #![tactic(auto)]
 
 mod open_requests;

@@ -1,4 +1,4 @@
--- The arrivals of a record: what each asks, and what settles it. The events `es` are newest first.
+-- The arrivals of a record: what each asks for, and what settles it. The events `es` are newest first.
 use Rattle.std.proofs.Common.{◌≡◌, ℕ, ◌+◌, ◌<◌, ◌≤◌, Bool, true, false, ◌&&◌, List, [], ◌∷◌, reverse, Some, refl, ap, sym, ◌∙◌, subst, arith, inl, inr, ◌⊎◌, get_or}
 use Rattle.std.proofs.lemmas.Bool.{true≢false, ne_eqb, eq-eqb, cases_lt, cases_eq}
 use Rattle.std.proofs.lemmas.List.{reverse-reverse, get_or_append_left, get_or_push}

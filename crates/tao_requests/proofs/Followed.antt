@@ -34,7 +34,7 @@ use Rattle.tao_requests.proofs.KeptQueues.{own_block}
 use Rattle.tao_requests.proofs.NewRequests.{names_one, new_at, old_at}
 use Rattle.tao_requests.proofs.Arrivals.{on_listed, pad_listed, no_pad, settler_last, both, and_both, settles_itself, pad_fake}
 
--- ---- the relation, looked back on
+-- ---- the relation to the reversed record
 
 pub record Following (es : List Event) (rs : List Request) : Type 0 where
   pub listed : map (λ r. r.op) rs ≡ ops (reverse es)
@@ -128,9 +128,9 @@ kind_follows es rs Pad f = refl
 pub kind_is_real : KindIsReal
 kind_is_real events rs op f = kind_follows (reverse events) rs op (following events rs f)
 
--- ---- one event more
+-- ---- one more event
 
--- a new arrival waits, where it isn't a pad
+-- a new arrival waits unless it is a pad
 new_waits : (o : Opening) (es : List Event) (rs : List Request) (client : ℕ) (op : Op) (word block : ℕ) → FollowsLawfully o es → Following es rs → names block op ≡ true
     → is_settled (Arrive client op word ∷ es) (arrived es) ≡ false
 new_waits o es rs client op word block lawful f named = rw (pad (no_pad block op named)) (waiting (cases_lt (settler (Arrive client op word ∷ es) (arrived es)) (arrived es)))
@@ -141,7 +141,7 @@ new_waits o es rs client op word block lawful f named = rw (pad (no_pad block op
     last : IsLast (is_real_on (Arrive client op word ∷ es) block) (arrived es + 1) (Some (settler (Arrive client op word ∷ es) (arrived es)))
     last = settler_last (Arrive client op word ∷ es) (arrived es) block (omega arith) (on_newest es client op word block ∙ named)
 
-    -- where the last real one before it were done, it would be real itself
+    -- if the last real one before it were done, it would be real itself
     undone : (s : ℕ) → IsLast (is_real_on (Arrive client op word ∷ es) block) (arrived es + 1) (Some s) → s < arrived es → is_done es s ≡ true → ⊥
     undone s l low done = true≢false (sym (and_both (is_real (Arrive client op word ∷ es) (arrived es)) (is_on (Arrive client op word ∷ es) (arrived es) block) real
         (on_newest es client op word block ∙ named)) ∙ l.2 (arrived es) low (omega arith))
@@ -211,7 +211,7 @@ pub follows_arrive : FollowsArrive
 follows_arrive o events rs client op word lawful f =
     followed_more events (Arrive client op word) (rs ++ request_of op (kind_now rs op) ∷ []) (arrives o (reverse events) rs client op word lawful (following events rs f))
 
--- an arrival that isn't on the block of a real one, or is before it, has another settler
+-- an arrival on another block than a real one, or before it, has another settler
 other_settler : (es : List Event) (rs : List Request) → Following es rs → (i j : ℕ) → j < arrived es → is_pad es j ≡ false → (settler es j ≡ i → ⊥)
     → (taken : List Bucket) → is_settled (Done i taken ∷ es) j ≡ is_settled es j
 other_settler es rs f i j below pad other taken = rw (ne_eqb i (settler es j) (λ e. other (sym e))) refl
@@ -292,7 +292,7 @@ real_done es rs i taken value f below real undone = record {
     here : is_on es i (block_of rs i) ≡ true
     here = on_is es rs f i (block_of rs i) below ∙ own_block (request_at rs i).op (sym (pad_is es rs f i below) ∙ pad_fake es i real)
 
-    -- the settler of one that is on the block and no earlier
+    -- the settler of an arrival on the block, no earlier than the real one
     its_settler : (j s : ℕ) → i ≤ j → IsLast (is_real_on es (block_of rs i)) (j + 1) (Some s) → j < arrived es → (s < i) ⊎ (i ≤ s) → (s ≡ i) ⊎ (s ≡ i → ⊥) → s ≡ i
     its_settler j s more l low (inl less) e = absurd (true≢false (sym (and_both (is_real es i) (is_on es i (block_of rs i)) real here) ∙ l.2 i less (omega arith)))
     its_settler j s more l low (inr up) (inl e) = e

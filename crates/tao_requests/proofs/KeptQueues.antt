@@ -1,4 +1,4 @@
--- A block's requests are settled: what the fields keep. And what both have of the code's lists.
+-- Settling a block's requests keeps the queues; and what holds of the lists in the code.
 use Rattle.std.proofs.Common.{◌≡◌, ℕ, ◌<◌, ◌≤◌, Bool, true, false, List, ◌++◌, length, Option, Some, None, IsSome, is_none, refl, ap, sym, ◌∙◌, subst, arith, inl, inr, ◌⊎◌, length-set, take, drop}
 use Rattle.std.proofs.lemmas.Bool.{true≢false, cases_eq, cases_lt, eq-eqb}
 use Rattle.std.proofs.lemmas.List.{get_or-set_same, get_or-set_other, drop_all, take_all, append-nil}
@@ -44,7 +44,7 @@ under_way_waits rs n u = waiting (request_at rs n) u.waits
 pub under_way_real : (rs : List Request) (n : ℕ) → IsUnderWay rs n → is_real_at rs n ≡ true
 under_way_real rs n u = ap is_real_kind u.is_real
 
--- all on its block from it on wait
+-- all requests on its block from it on wait
 pub all_wait : (s : Shape) (n : ℕ) (rs : List Request) (ws : List Wait) (lasts : List (Option ℕ)) → IsKept s rs ws lasts → IsUnderWay rs n
     → (j : ℕ) → n ≤ j → is_on_at rs (block_of rs n) j ≡ true → waits_at rs j ≡ true
 all_wait s n rs ws lasts h u j low o = which (cases_eq j n)
@@ -148,7 +148,7 @@ kept_settled s n v rs ws ws' lasts h u l = record {
 
 -- ---- as the code has it
 
--- a slice that was lent whole is the list now
+-- a slice that was lent whole is the current list
 pub lent_whole : {X : Type 0} (n : ℕ) (xs ys : List X) → n ≡ length ys → length xs ≡ length ys → take n (xs ++ drop (length xs) ys) ≡ xs
 lent_whole n xs ys len same =
     ap (λ rest. take n (xs ++ rest)) (drop_all (length xs) ys (omega arith)) ∙ (ap (take n) (append-nil xs) ∙ take_all n xs (omega arith))

@@ -1,4 +1,4 @@
--- A request begins: what the fields keep, and which kind it is.
+-- A request begins: how the queues are kept, and which kind it is.
 use Rattle.std.proofs.Common.{◌≡◌, ℕ, ◌+◌, ◌<◌, ◌≤◌, Bool, true, false, zero, suc, ◌&&◌, List, [], ◌∷◌, ◌++◌, length, Option, Some, None, refl, ap, sym, ◌∙◌, subst, arith, inl, inr, ◌⊎◌, length-set}
 use Rattle.std.specs.Prelude.{if◌then◌else◌}
 use Rattle.std.specs.List.{list_any}
@@ -36,7 +36,7 @@ names_else block other op e f = which (names other op) refl
 pub on_one : (rs : List Request) → OnOneBlock (is_on_at rs)
 on_one rs block other i = names_one block other (request_at rs i).op
 
--- ---- one request more
+-- ---- one more request
 
 pub past_off : (rs : List Request) (block i : ℕ) → length rs ≤ i → is_on_at rs block i ≡ false
 past_off rs block i h = ap (λ r. names block r.op) (get_or_past rs i (request_of Pad Fake) h)
@@ -66,7 +66,7 @@ one_more b rs x named unanswered = record {
     waiting : (r : Request) → r.answer ≡ None → waits r ≡ true
     waiting r e = rw e refl
 
--- ---- the waits of the requests, with the new one behind the last
+-- ---- the waits of the requests, with the new one after the last
 
 pub linked_len : (ws : List Wait) (last : Option ℕ) (n : ℕ) → length (linked ws last n) ≡ length ws
 linked_len ws None n = refl
@@ -181,7 +181,7 @@ kept_pad s rs ws w lasts h = record {
       (λ block i. ap (λ r. names block r.op) (same i)) (λ i. ap waits (same i)) (λ i. ap (λ r. is_real_kind r.kind) (same i)) (λ i e. ap (λ y. y.next) (before i e));
 }
   where
-    -- past the last request there is a pad already
+    -- past the last request `request_at` gives a pad already
     same : (i : ℕ) → request_at (rs ++ request_of Pad Fake ∷ []) i ≡ request_at rs i
     same i = which (cases_eq i (length rs))
       where
@@ -216,7 +216,7 @@ can_enter s op rs ws lasts h fits = which op fits
     which (Write b value) f = (omega (arith, f.0, h.blocks), within b (last_on lasts b) refl)
     which Pad f = tt
 
--- ---- the kind of a request, by looking back
+-- ---- the kind of a request
 
 none_passes : (p : Request → Bool) (rs : List Request) → ((i : ℕ) → p (request_at rs i) ≡ true → ⊥) → list_any p rs ≡ false
 none_passes p [] h = refl

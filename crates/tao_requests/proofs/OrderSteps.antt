@@ -1,4 +1,4 @@
--- The order of the queues under one more request, and when a block's requests are settled: over plain functions.
+-- The order of the queues after one more request, and after settling a block's requests, for plain functions.
 use Rattle.std.proofs.Common.{◌≡◌, ℕ, ◌<◌, ◌≤◌, Bool, true, false, Option, Some, None, refl, ap, sym, ◌∙◌, arith, inl, inr, ◌⊎◌}
 use Rattle.std.proofs.lemmas.Bool.{true≢false, cases_eq, cases_lt}
 use Rattle.tao_requests.specs.Queues.{InOrder}
@@ -12,7 +12,7 @@ none_some k o e f = let h : None ≡ Some k = sym e ∙ f in cc
 pub some_same : {X : Type 0} (k n : X) (o : Option X) → o ≡ Some n → o ≡ Some k → n ≡ k
 some_same k n o e f = let h : Some n ≡ Some k = sym e ∙ f in cc
 
--- request n is new and waits, on block b; past it there is none; the others are as they were
+-- request n is new and waits, on block b; there is none after it; the others are unchanged
 pub record OneMore (b n : ℕ) (on on' : ℕ → ℕ → Bool) (waits waits' is_real is_real' : ℕ → Bool) : Type 0 where
   pub was_none : (block i : ℕ) → n ≤ i → on block i ≡ false
   pub on_here : on' b n ≡ true
@@ -22,7 +22,7 @@ pub record OneMore (b n : ℕ) (on on' : ℕ → ℕ → Bool) (waits waits' is_
   pub waits_old : (i : ℕ) → (i ≡ n → ⊥) → waits' i ≡ waits i
   pub real_old : (i : ℕ) → (i ≡ n → ⊥) → is_real' i ≡ is_real i
 
--- one that was on a block before is another than the new one, and stays on it
+-- a request that was on a block before isn't the new one, and stays on it
 pub below_new : (b n : ℕ) (on on' : ℕ → ℕ → Bool) (waits waits' is_real is_real' : ℕ → Bool) → OneMore b n on on' waits waits' is_real is_real'
     → (block i : ℕ) → on block i ≡ true → i < n
 below_new b n on on' waits waits' is_real is_real' m block i h = below (cases_lt i n)
@@ -31,7 +31,7 @@ below_new b n on on' waits waits' is_real is_real' m block i h = below (cases_lt
     below (inl low) = low
     below (inr high) = absurd (differ (on block i) h (m.was_none block i high))
 
--- one that is on a block now is the new one on its block, or was on it before
+-- a request on a block is the new one on its block, or was on it before
 abbrev pub IsNewOrOld : ℕ → ℕ → (ℕ → ℕ → Bool) → ℕ → ℕ → Type 0
 IsNewOrOld b n on block i = ((block ≡ b) × (i ≡ n)) ⊎ ((i < n) × (on block i ≡ true))
 
@@ -44,7 +44,7 @@ new_or_old b n on on' waits waits' is_real is_real' m block i h = which (cases_e
     which (inl e) (inr f) = absurd (differ (on' block n) (sym (ap (on' block) e) ∙ h) (m.on_else block f))
     which (inr e) f = inr (below_new b n on on' waits waits' is_real is_real' m block i (sym (m.on_old block i e) ∙ h), sym (m.on_old block i e) ∙ h)
 
--- one that isn't new and wasn't on the block isn't on it
+-- a request that isn't new and wasn't on the block isn't on it
 pub still_off : (b n : ℕ) (on on' : ℕ → ℕ → Bool) (waits waits' is_real is_real' : ℕ → Bool) → OneMore b n on on' waits waits' is_real is_real'
     → (block i : ℕ) → ((block ≡ b) × (i ≡ n) → ⊥) → on block i ≡ false → on' block i ≡ false
 still_off b n on on' waits waits' is_real is_real' m block i other h = which (cases_eq i n) (cases_eq block b)
@@ -54,7 +54,7 @@ still_off b n on on' waits waits' is_real is_real' m block i other h = which (ca
     which (inl e) (inr f) = ap (on' block) e ∙ m.on_else block f
     which (inr e) f = m.on_old block i e ∙ h
 
--- The new one is the last in its block's queue, and the one that was the last knows it. It is real where the queue was empty.
+-- The new request is the last in its block's queue, and the previous last one links to it. It is real if the queue was empty.
 pub record NewLast (b n : ℕ) (is_real' : ℕ → Bool) (next next' last last' : ℕ → Option ℕ) : Type 0 where
   pub real_where_empty : last b ≡ None → is_real' n ≡ true
   pub fake_else : (k : ℕ) → last b ≡ Some k → is_real' n ≡ false
@@ -67,7 +67,7 @@ pub record NewLast (b n : ℕ) (is_real' : ℕ → Bool) (next next' last last' 
 abbrev pub OnOneBlock : (ℕ → ℕ → Bool) → Type 0
 OnOneBlock on = (block other i : ℕ) → on block i ≡ true → on other i ≡ true → block ≡ other
 
--- an old one that waits: it was the last in the new one's queue, or its next is as it was
+-- an old request that waits: it was the last in the new one's queue, or its link is unchanged
 abbrev pub OldLink : ℕ → ℕ → (ℕ → Option ℕ) → (ℕ → Option ℕ) → (ℕ → Option ℕ) → ℕ → ℕ → Type 0
 OldLink b n next next' last block i = ((block ≡ b) × (last b ≡ Some i) × (next' i ≡ Some n))
     ⊎ ((next' i ≡ next i) × (block ≡ b → (k : ℕ) × (last b ≡ Some k) × (i < k)))
@@ -90,7 +90,7 @@ old_link b n on waits is_real is_real' next next' last last' h one l block i low
     which (inl f) (Some k) e = here f k e (cases_eq i k)
     which (inr f) last_b e = inr (l.next_old i (λ y. omega arith) (λ y. f (one block b i o (h.last_on b i y))), λ g. absurd (f g))
 
--- one more request leaves the queues in order
+-- one more request keeps the queues in order
 pub enters : (b n : ℕ) (on on' : ℕ → ℕ → Bool) (waits waits' is_real is_real' : ℕ → Bool) (next next' last last' : ℕ → Option ℕ)
     → InOrder on waits is_real next last → OnOneBlock on → OneMore b n on on' waits waits' is_real is_real' → NewLast b n is_real' next next' last last'
     → InOrder on' waits' is_real' next' last'
@@ -202,7 +202,7 @@ enters b n on on' waits waits' is_real is_real' next next' last last' h one m l 
         let y : k < n = below_new b n on on' waits waits' is_real is_real' m block k (h.next_on block i k o w (sym p.0 ∙ e)) in
         off block j (λ z. let same : j ≡ n = z.1 in omega arith) (h.between block i k j o w (sym p.0 ∙ e) low high)
 
--- order is a matter of what the functions give
+-- the order depends only on the functions' values
 pub same_order : (on on' : ℕ → ℕ → Bool) (waits waits' is_real is_real' : ℕ → Bool) (next next' last : ℕ → Option ℕ) → InOrder on waits is_real next last
     → ((block i : ℕ) → on' block i ≡ on block i) → ((i : ℕ) → waits' i ≡ waits i) → ((i : ℕ) → is_real' i ≡ is_real i) → ((i : ℕ) → waits i ≡ true → next' i ≡ next i)
     → InOrder on' waits' is_real' next' last
@@ -229,14 +229,14 @@ same_order on on' waits waits' is_real is_real' next next' last h on_same waits_
     next_was : {o : Option ℕ} (i : ℕ) → waits' i ≡ true → next' i ≡ o → next i ≡ o
     next_was i w e = sym (next_same i (waits_was i w)) ∙ e
 
--- the requests on block b from the real one i that waits on are settled
+-- the waiting requests on block b, from the real one i on, are settled
 pub record Settles (b i : ℕ) (on : ℕ → ℕ → Bool) (waits waits' : ℕ → Bool) (last last' : ℕ → Option ℕ) : Type 0 where
   pub waits_gone : (j : ℕ) → i ≤ j → on b j ≡ true → waits' j ≡ false
   pub waits_old : (j : ℕ) → (i ≤ j → on b j ≡ true → ⊥) → waits' j ≡ waits j
   pub last_gone : last' b ≡ None
   pub last_else : (block : ℕ) → (block ≡ b → ⊥) → last' block ≡ last block
 
--- settling leaves the queues in order
+-- settling keeps the queues in order
 pub leaves : (b n : ℕ) (on : ℕ → ℕ → Bool) (waits waits' is_real : ℕ → Bool) (next last last' : ℕ → Option ℕ)
     → InOrder on waits is_real next last → OnOneBlock on → Settles b n on waits waits' last last'
     → on b n ≡ true → is_real n ≡ true → waits n ≡ true → InOrder on waits' is_real next last'

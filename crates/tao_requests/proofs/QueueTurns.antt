@@ -1,4 +1,4 @@
--- One turn of settling a queue: the request of a number is answered, and the next on its block comes.
+-- One turn of settling a queue: a request is answered, and the next on its block comes.
 use Rattle.std.proofs.Common.{◌≡◌, ℕ, suc, ◌+◌, ◌-◌, ◌<◌, ◌≤◌, true, false, List, [], length, drop, ap, sym, ◌∙◌, arith, inl, inr, ◌⊎◌, length-set, None}
 use Rattle.std.specs.List.{slice_index_or}
 use Rattle.std.proofs.Math.ListN.{set}
@@ -16,7 +16,7 @@ use Rattle.tao_requests.specs.Settling.{answered, value_after, settled_from, val
 use Rattle.tao_requests.specs.Queues.{is_on_at, wait_at, LeavesOthers}
 use Rattle.tao_requests.proofs.SettledLists.{on_within, settled_on, value_on, settled_up_to, value_up_to, settled_none, value_none}
 
--- what two lists have from a number on is the same
+-- two lists agree from a number on
 pub same_from : {X : Type 0} (n m : ℕ) (xs ys : List X) (d : X) → drop n xs ≡ drop n ys → n ≤ m → slice_index_or xs m d ≡ slice_index_or ys m d
 same_from n m xs ys d same low =
     let at : n + (m - n) ≡ m = omega arith in
@@ -27,7 +27,7 @@ same_further n k xs ys same low =
     let at : n + (k - n) ≡ k = omega arith in
     ap (λ j. drop j xs) (sym at) ∙ (sym (drop-drop (k - n) n xs) ∙ (ap (λ list. drop (k - n) list) same ∙ (drop-drop (k - n) n ys ∙ ap (λ j. drop j ys) at)))
 
--- an edit before a number is unseen from there on
+-- an edit before a number doesn't change the rest from there on
 pub drops_edit : {X : Type 0} (n k : ℕ) (x : X) (xs ys : List X) → drop n xs ≡ drop n ys → n < k → drop k (set xs n x) ≡ drop k ys
 drops_edit n k x xs ys same low = drop-set-lt k xs n x low ∙ same_further n k xs ys same (omega arith)
 
@@ -38,7 +38,7 @@ pub on_edited : (n m block : ℕ) (a : Request) (rs rs0 : List Request) → drop
 on_edited n m block a rs rs0 same low =
     ap (λ r. names block r.op) (get_or-set_other rs n m a (request_of Pad Fake) (λ e. omega arith)) ∙ on_same n m block rs rs0 same (omega arith)
 
--- the request of this number is answered, so and with that value behind it
+-- the request of this number is answered with value `v`, and `after` is the value after it
 pub record Turn (block n : ℕ) (v after : List ℕ) (rs rs0 : List Request) (d a : Request) : Type 0 where
   pub same : drop n rs ≡ drop n rs0
   pub here : is_on_at rs0 block n ≡ true
@@ -77,7 +77,7 @@ turn_len block n v v0 after rs rs0 d a t same fits =
     = get_or_default rs n d (request_of Pad Fake) (on_within block n rs here) ∙ same_from n n rs rs0 (request_of Pad Fake) t.same (omega arith) in
     ap length t.left ∙ (ap (λ r. length (value_after v r.op)) at ∙ after_len v v0 (request_at rs0 n).op same (fits n))
 
--- the next on the block is k
+-- the next request on the block is k
 pub goes_on : (block n k : ℕ) (v after : List ℕ) (rs rs0 : List Request) (d a : Request) → Turn block n v after rs rs0 d a
     → n < k → ((m : ℕ) → n < m → m < k → is_on_at rs0 block m ≡ false)
     → (settled_from k block after (set rs n a) ≡ settled_from n block v rs) × (value_from k block after (set rs n a) ≡ value_from n block v rs)
@@ -89,7 +89,7 @@ goes_on block n k v after rs rs0 d a t low off =
       sym (turn_value block n v after rs rs0 d a t ∙ (value_up_to (k - suc n) (suc n) block after (set rs n a) skipped ∙ ap (λ j. value_from j block after (set rs n a)) at)),
     )
 
--- none is left on the block
+-- there is no further request on the block
 pub comes_to_end : (block n : ℕ) (v after : List ℕ) (rs rs0 : List Request) (d a : Request) → Turn block n v after rs rs0 d a
     → ((m : ℕ) → n < m → is_on_at rs0 block m ≡ false)
     → (set rs n a ≡ settled_from n block v rs) × (after ≡ value_from n block v rs)
@@ -99,12 +99,12 @@ comes_to_end block n v after rs rs0 d a t off =
       sym (turn_value block n v after rs rs0 d a t ∙ value_none (suc n) block after (set rs n a) left),
     )
 
--- what the wait of this number says of the next, the first lists said
+-- the wait of this number has the same next as in the first lists
 pub next_same : (n : ℕ) (ws ws0 : List Wait) (d : Wait) → drop n ws ≡ drop n ws0 → n < length ws → (slice_index_or ws n d).next ≡ (wait_at ws0 n).next
 next_same n ws ws0 d same within =
     ap (λ x. x.next) (get_or_default ws n d (record { next = None; room = [] }) within ∙ same_from n n ws ws0 (record { next = None; room = [] }) same (omega arith))
 
--- the request's wait has lost its room, and nothing else
+-- the request's wait has lost only its buffer
 pub leaves_more : (block n : ℕ) (rs0 : List Request) (ws ws0 : List Wait) (d x : Wait) → LeavesOthers block rs0 ws0 ws → is_on_at rs0 block n ≡ true
     → n < length ws → x.next ≡ (slice_index_or ws n d).next → LeavesOthers block rs0 ws0 (set ws n x)
 leaves_more block n rs0 ws ws0 d x h on within keeps = record {

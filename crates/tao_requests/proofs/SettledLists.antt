@@ -1,4 +1,4 @@
--- Settling from a number on: one request more, and over requests that are on other blocks.
+-- Settling from a number on: one more request, and skipping requests on other blocks.
 use Rattle.std.proofs.Common.{◌≡◌, ℕ, zero, suc, ◌+◌, ◌<◌, ◌≤◌, Bool, true, false, List, [], ◌∷◌, length, map, refl, ap, sym, ◌∙◌, arith, inl, inr, ◌⊎◌}
 use Rattle.std.proofs.Math.ListN.{set}
 use Rattle.std.proofs.lemmas.Bool.{true≢false, cases_lt}
@@ -26,7 +26,7 @@ value_on n block v [] on = absurd (true≢false (sym on))
 value_on zero block v (r ∷ rs) on = rw on refl
 value_on (suc n) block v (r ∷ rs) on = value_on n block v rs on
 
--- a request on another block stays
+-- a request on another block is unchanged
 pub settled_other : (n block : ℕ) (v : List ℕ) (rs : List Request) → is_on_at rs block n ≡ false → settled_from n block v rs ≡ settled_from (suc n) block v rs
 settled_other zero block v [] off = refl
 settled_other (suc n) block v [] off = refl
@@ -39,7 +39,7 @@ value_other (suc n) block v [] off = refl
 value_other zero block v (r ∷ rs) off = rw off refl
 value_other (suc n) block v (r ∷ rs) off = value_other n block v rs off
 
--- so do all up to the next on the block
+-- the same for all requests up to the next one on the block
 pub settled_up_to : (more n block : ℕ) (v : List ℕ) (rs : List Request) → ((m : ℕ) → n ≤ m → m < n + more → is_on_at rs block m ≡ false)
     → settled_from n block v rs ≡ settled_from (n + more) block v rs
 settled_up_to zero n block v rs off = let same : n + 0 ≡ n = omega arith in rw same refl
@@ -71,7 +71,7 @@ value_past (suc n) block v [] h = refl
 value_past zero block v (r ∷ rs) h = absurd (omega arith)
 value_past (suc n) block v (r ∷ rs) h = value_past n block v rs (omega arith)
 
--- where none is left on the block
+-- no request on the block is left
 pub settled_none : (n block : ℕ) (v : List ℕ) (rs : List Request) → ((m : ℕ) → n ≤ m → is_on_at rs block m ≡ false) → settled_from n block v rs ≡ rs
 settled_none n block v rs off = settled_up_to (length rs) n block v rs (λ m low high. off m low) ∙ settled_past (n + length rs) block v rs (omega arith)
 
@@ -80,7 +80,7 @@ value_none n block v rs off = value_up_to (length rs) n block v rs (λ m low hig
 
 -- ---- one request of the settled list
 
--- a request on another block, or before the first, is as it was
+-- a request on another block, or before the first, is unchanged
 pub settled_off : (n block : ℕ) (v : List ℕ) (rs : List Request) (j : ℕ) → (n ≤ j → is_on_at rs block j ≡ true → ⊥) → request_at (settled_from n block v rs) j ≡ request_at rs j
 settled_off zero block v [] j h = refl
 settled_off (suc n) block v [] j h = refl
@@ -98,7 +98,7 @@ settled_off zero block v (r ∷ rs) (suc j) h = off (λ w. settled_off zero bloc
 settled_off (suc n) block v (r ∷ rs) zero h = refl
 settled_off (suc n) block v (r ∷ rs) (suc j) h = settled_off n block v rs j (λ low on. h (omega arith) on)
 
--- one on the block, from the first on, has an answer now
+-- a request on the block, from the first on, has an answer
 pub settled_there : (n block : ℕ) (v : List ℕ) (rs : List Request) (j : ℕ) → n ≤ j → is_on_at rs block j ≡ true
     → (w : List ℕ) × (request_at (settled_from n block v rs) j ≡ answered (request_at rs j) w)
 settled_there n block v [] j low on = absurd (true≢false (sym on))
@@ -112,7 +112,7 @@ settled_there zero block v (r ∷ rs) (suc j) low on = there (λ w. settled_ther
 settled_there (suc n) block v (r ∷ rs) zero low on = absurd (omega arith)
 settled_there (suc n) block v (r ∷ rs) (suc j) low on = settled_there n block v rs j (omega arith) on
 
--- either way it has its operation and kind
+-- operation and kind are unchanged
 pub record IsSameBut (new old : Request) : Type 0 where
   pub op : new.op ≡ old.op
   pub kind : new.kind ≡ old.kind

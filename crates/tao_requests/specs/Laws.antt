@@ -1,4 +1,4 @@
--- Laws: the answers are the plain array's, and the requests are those of a record's arrivals. A record's events are oldest first.
+-- Laws: the answers are the plain array's, and the requests are a record's arrivals. A record's events are oldest first.
 use Rattle.std.specs.Prelude.{◌≡◌, ℕ, ◌+◌, ◌<◌, true, false, List, [], ◌∷◌, ◌++◌, map, take, drop, length, reverse, Some, is_some}
 use Rattle.tao_base.specs.Array.{block_at, array_after, array_reply}
 use Rattle.tao_base.specs.Session.{Opening}
@@ -19,34 +19,34 @@ use Rattle.tao_requests.specs.Settling.{settled_from, value_from}
 abbrev pub ops_from : ℕ → List Request → List Op
 ops_from first requests = map (λ request. request.op) (drop first requests)
 
--- Where an array has this value at the block, a request on the block is answered what the array answers its operation after those from the
--- first one on.
+-- If the array has this value at the block, a request on the block is answered what the array answers after
+-- the operations from the first request on.
 abbrev pub AnswersArePlain : Type 0
 AnswersArePlain = (blocks : List (List ℕ)) (block first k : ℕ) (requests : List Request) → block < length blocks
     → names block (request_at requests (first + k)).op ≡ true
     → (request_at (settled_from first block (block_at blocks block) requests) (first + k)).answer
     ≡ Some (array_reply (array_after blocks (take k (ops_from first requests))) (request_at requests (first + k)).op)
 
--- the value that is left is the array's after all of them
+-- the remaining value is the array's after all of them
 abbrev pub ValueIsPlain : Type 0
 ValueIsPlain = (blocks : List (List ℕ)) (block first : ℕ) (requests : List Request) → block < length blocks
     → value_from first block (block_at blocks block) requests ≡ block_at (array_after blocks (ops_from first requests)) block
 
--- The requests are those of a record's arrivals: each has its operation, is real where it is, and has an answer where it is settled.
+-- The requests are a record's arrivals: same operations, real or not alike, and answered exactly if settled.
 pub record Follows (events : List Event) (requests : List Request) : Type 0 where
   pub ops : map (λ request. request.op) requests ≡ ops events
   pub kinds : (i : ℕ) → i < arrived (reverse events) → is_real_kind (request_at requests i).kind ≡ is_real (reverse events) i
   pub settled : (i : ℕ) → i < arrived (reverse events) → is_some (request_at requests i).answer ≡ is_settled (reverse events) i
 
--- a request is real where its arrival will be
+-- a new request is real if its arrival will be
 abbrev pub KindIsReal : Type 0
 KindIsReal = (events : List Event) (requests : List Request) (op : Op) → Follows events requests → is_real_kind (kind_now requests op) ≡ real_now (reverse events) op
 
--- where nothing has happened there are no requests
+-- an empty record has no requests
 abbrev pub FollowsNone : Type 0
 FollowsNone = Follows [] []
 
--- an arrival is a request that begins
+-- one more arrival is one more request
 abbrev pub FollowsArrive : Type 0
 FollowsArrive = (o : Opening) (events : List Event) (requests : List Request) (client : ℕ) (op : Op) (word : ℕ) → FollowsLawfully o (reverse events) → Follows events requests
     → Follows (events ++ Arrive client op word ∷ []) (requests ++ request_of op (kind_now requests op) ∷ [])
@@ -57,17 +57,17 @@ FollowsReal = (events : List Event) (requests : List Request) (i : ℕ) (taken :
     → i < arrived (reverse events) → is_real (reverse events) i ≡ true → is_done (reverse events) i ≡ false
     → IsUnderWay requests i × Follows (events ++ Done i taken ∷ []) (settled_from i (block_of requests i) value requests)
 
--- that of a fake one settles none
+-- the Done of a fake arrival settles none
 abbrev pub FollowsFake : Type 0
 FollowsFake = (events : List Event) (requests : List Request) (i : ℕ) (taken : List Bucket) → Follows events requests → is_real (reverse events) i ≡ false
     → Follows (events ++ Done i taken ∷ []) requests
 
--- nor do other events
+-- other events change nothing
 pub record FollowsOthers (events : List Event) (requests : List Request) : Type 0 where
   pub issue : (version nonce : ℕ) (buckets : List Bucket) → Follows (events ++ Issue version nonce buckets ∷ []) requests
   pub acked : (version : ℕ) → Follows (events ++ Acked version ∷ []) requests
   pub fault : (cause : Cause) → Follows (events ++ Fault cause ∷ []) requests
 
--- so it is for all requests that follow a record: with one of these events they follow it too
+-- requests that follow a record also follow it with one of these events
 abbrev pub FollowsFurther : Type 0
 FollowsFurther = (events : List Event) (requests : List Request) → Follows events requests → FollowsOthers events requests

@@ -1,4 +1,4 @@
--- How the queues of the blocks are kept: for each block the last request in its queue, and in each request that waits the next one.
+-- How the queues of the blocks are kept: for each block its last request, and for each waiting request the next one.
 use Rattle.std.specs.Prelude.{◌≡◌, ℕ, ◌+◌, ◌<◌, ◌≤◌, Bool, true, false, List, [], length, slice_set, Option, Some, None, IfSome, All, ⊤}
 use Rattle.std.specs.List.{slice_index_or}
 use Rattle.tao_base.specs.Limits.{Shape, IsShape}
@@ -14,24 +14,24 @@ use Rattle.tao_requests.specs.State.{is_real_kind, waits, request_at}
 use Rattle.tao_requests.specs.declared.rooms.Room.{Room}
 use Rattle.tao_requests.specs.Rooms.{IsRoom, FitsIn}
 
--- the last request in a block's queue, where the queue isn't empty
+-- the last request in a block's queue, if there is one
 abbrev pub last_on : List (Option ℕ) → ℕ → Option ℕ
 last_on lasts block = slice_index_or lasts block None
 
--- what the request of this number has while it waits: the next one on its block, and room for its answer; past the last one neither
+-- a waiting request's next one on its block and its buffer for the answer; past the last request neither
 abbrev pub wait_at : List Wait → ℕ → Wait
 wait_at list i = slice_index_or list i (record { next = None; room = [] })
 
--- the last request of a queue, where it has one, is among the first so many
+-- the last request of a queue, if there is one, is below this number
 abbrev pub IsWithin : Option ℕ → ℕ → Type 0
 IsWithin last len = IfSome last (λ k. k < len)
 
--- the kind of a request that finds the queue so
+-- the kind of a new request, by the last one in its queue
 abbrev pub kind_after : Option ℕ → Kind
 kind_after None = Real
 kind_after (Some last) = Fake
 
--- the last request knows the new one
+-- the last request links to the new one
 abbrev pub linked : List Wait → Option ℕ → ℕ → List Wait
 linked list None number = list
 linked list (Some last) number = slice_set list last (record (wait_at list last) { next = Some number })
@@ -40,7 +40,7 @@ linked list (Some last) number = slice_set list last (record (wait_at list last)
 abbrev pub is_on_at : List Request → ℕ → ℕ → Bool
 is_on_at requests block i = names block (request_at requests i).op
 
--- The queue of a block from a request on, for a value of the block: each has room for its answer and knows the next one.
+-- The queue of a block from a request on, for a value of the block: each has a buffer for its answer and links to the next one.
 pub record IsQueue (block first : ℕ) (value : List ℕ) (requests : List Request) (list : List Wait) : Type 0 where
   pub places : length list ≡ length requests
   pub written : (i : ℕ) → FitsIn value (request_at requests i).op
@@ -50,22 +50,22 @@ pub record IsQueue (block first : ℕ) (value : List ℕ) (requests : List Reque
   pub on : (i k : ℕ) → first ≤ i → is_on_at requests block i ≡ true → (wait_at list i).next ≡ Some k → is_on_at requests block k ≡ true
   pub between : (i k m : ℕ) → first ≤ i → is_on_at requests block i ≡ true → (wait_at list i).next ≡ Some k → i < m → m < k → is_on_at requests block m ≡ false
 
--- what settling leaves: each request's next, and the rooms of the other blocks' requests
+-- after settling: each request keeps its link, and requests on other blocks keep their buffers
 pub record LeavesOthers (block : ℕ) (requests : List Request) (old new : List Wait) : Type 0 where
   pub places : length new ≡ length old
   pub next : (i : ℕ) → (wait_at new i).next ≡ (wait_at old i).next
   pub others : (i : ℕ) → is_on_at requests block i ≡ false → wait_at new i ≡ wait_at old i
 
--- whether the request of this number has no answer yet; past the last one none waits
+-- whether the request of this number has no answer yet; false past the last one
 abbrev pub waits_at : List Request → ℕ → Bool
 waits_at requests i = waits (request_at requests i)
 
--- whether the request of this number fetches for its block; past the last one none does
+-- whether the request of this number fetches for its block; false past the last one
 abbrev pub is_real_at : List Request → ℕ → Bool
 is_real_at requests i = is_real_kind (request_at requests i).kind
 
--- A block's queue is empty, or has the requests on the block from the real one that waits on: all of these wait, and none before them.
--- Each has the next behind it, up to the last.
+-- A block's queue is empty, or starts at the real request that waits: all requests on the block from it on wait, none before.
+-- Each links to the next one, up to the last.
 pub record InOrder (on : ℕ → ℕ → Bool) (waits is_real : ℕ → Bool) (next last : ℕ → Option ℕ) : Type 0 where
   pub quiet : (block i : ℕ) → last block ≡ None → on block i ≡ true → waits i ≡ false
   pub last_on : (block k : ℕ) → last block ≡ Some k → on block k ≡ true
@@ -79,7 +79,7 @@ pub record InOrder (on : ℕ → ℕ → Bool) (waits is_real : ℕ → Bool) (n
   pub next_on : (block i k : ℕ) → on block i ≡ true → waits i ≡ true → next i ≡ Some k → on block k ≡ true
   pub between : (block i k m : ℕ) → on block i ≡ true → waits i ≡ true → next i ≡ Some k → i < m → m < k → on block m ≡ false
 
--- what the fields keep of the requests: the queues of all blocks, and room for the answer of each request that waits
+-- the queues of all blocks match the requests, and each waiting request has a buffer for its answer
 pub record IsKept (s : Shape) (requests : List Request) (list : List Wait) (lasts : List (Option ℕ)) : Type 0 where
   pub shape : IsShape s
   pub places : length list ≡ length requests
@@ -89,43 +89,43 @@ pub record IsKept (s : Shape) (requests : List Request) (list : List Wait) (last
   pub rooms : (i : ℕ) → waits_at requests i ≡ true → length (wait_at list i).room ≡ s.b
   pub queues : InOrder (is_on_at requests) (waits_at requests) (is_real_at requests) (λ i. (wait_at list i).next) (last_on lasts)
 
--- what a new request finds, and what it leaves; a pad is in no queue
+-- the kind of a new request; a pad is in no queue
 abbrev pub kind_entering : List (Option ℕ) → Op → Kind
 kind_entering lasts (Read block) = kind_after (last_on lasts block)
 kind_entering lasts (Write block value) = kind_after (last_on lasts block)
 kind_entering lasts Pad = Fake
 
--- the last request of each queue once this one has entered that of its block
+-- the last request of each queue after this one has entered its block's queue
 abbrev pub lasts_entered : List (Option ℕ) → Op → ℕ → List (Option ℕ)
 lasts_entered lasts (Read block) number = slice_set lasts block (Some number)
 lasts_entered lasts (Write block value) number = slice_set lasts block (Some number)
 lasts_entered lasts Pad number = lasts
 
--- the requests before this one once it has entered: the one that was last in the queue knows it as the next
+-- the requests before this one after it has entered: the previous last one links to it
 abbrev pub waits_entered : List Wait → List (Option ℕ) → Op → ℕ → List Wait
 waits_entered list lasts (Read block) number = linked list (last_on lasts block) number
 waits_entered list lasts (Write block value) number = linked list (last_on lasts block) number
 waits_entered list lasts Pad number = list
 
--- the block of an operation is there, and the last request in its queue
+-- the operation's block exists, and the last request in its queue is below this number
 abbrev pub CanEnter : List (Option ℕ) → ℕ → Op → Type 0
 CanEnter lasts len (Read block) = (block < length lasts) × IsWithin (last_on lasts block) len
 CanEnter lasts len (Write block value) = (block < length lasts) × IsWithin (last_on lasts block) len
 CanEnter lasts len Pad = ⊤
 
--- the block of an operation is there; a pad has none
+-- the operation's block exists; a pad has none
 abbrev pub IsOnBlockOf : List (Option ℕ) → Op → Type 0
 IsOnBlockOf lasts (Read block) = block < length lasts
 IsOnBlockOf lasts (Write block value) = block < length lasts
 IsOnBlockOf lasts Pad = ⊤
 
--- the queue of its block is empty
+-- the operation's queue is emptied
 abbrev pub lasts_left : List (Option ℕ) → Op → List (Option ℕ)
 lasts_left lasts (Read block) = slice_set lasts block None
 lasts_left lasts (Write block value) = slice_set lasts block None
 lasts_left lasts Pad = lasts
 
--- Rooms and places for the requests to come: rooms, and in two lists of this length and these capacities a place for each.
+-- Capacity for requests to come: `spare` buffers of the right size, and as much spare capacity in both lists.
 pub record HasRoom (s : Shape) (rooms : List Room) (spare len first second : ℕ) : Type 0 where
   pub each : All (IsRoom s) rooms
   pub in_first : len + spare ≤ first

@@ -1,22 +1,22 @@
-//! Laws: what the answers are, and that the requests are those of a record's arrivals.
+//! Laws: what the answers are, and that the requests are a record's arrivals.
 ghost use Rattle.tao_requests.specs.Laws.{AnswersArePlain, ValueIsPlain, KindIsReal, FollowsNone, FollowsArrive, FollowsReal, FollowsFake, FollowsFurther};
 
-/// What is answered when a block's requests are settled is what the plain array answers, in the order of arrival.
+/// Settling a block's requests answers them as the plain array does, in the order of arrival.
 pub fn answers_are_plain()
     ensures { AnswersArePlain }
 {}
 
-/// The value that is left is the plain array's.
+/// The remaining value is the plain array's.
 pub fn value_is_plain()
     ensures { ValueIsPlain }
 {}
 
-/// `begin` answers Real exactly where the definition over a record's events does.
+/// `begin` answers Real exactly if the definition over a record's events does.
 pub fn kind_is_real()
     ensures { KindIsReal }
 {}
 
-/// Where nothing has arrived there are no requests.
+/// An empty record has no requests.
 pub fn follows_none()
     ensures { FollowsNone }
 {}
@@ -26,7 +26,7 @@ pub fn follows_arrive()
     ensures { FollowsArrive }
 {}
 
-/// The Done of a real arrival may settle it, and settles what the definition over the events says.
+/// The Done of a real arrival may settle it, and settles exactly what the definition over the events says.
 pub fn follows_real()
     ensures { FollowsReal }
 {}
@@ -36,7 +36,7 @@ pub fn follows_fake()
     ensures { FollowsFake }
 {}
 
-/// Write-backs, acknowledgements and the end change nothing.
+/// Write-backs, acknowledgements and Faults change nothing.
 pub fn follows_further()
     ensures { FollowsFurther }
 {}

@@ -1,4 +1,4 @@
-//! What clients asked, and what they are answered: which arrival fetches for its block, and the answers in the order of arrival.
+//! The requests of clients and their answers: which arrival fetches for its block, and the answers in the order of arrival.
 #![tactic(auto)]
 
 mod laws;

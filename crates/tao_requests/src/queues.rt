@@ -1,4 +1,4 @@
-//! The queue of a block: its requests from the real one under way on, each of which knows the next.
+//! The queue of a block: its requests from the real one under way on, each linked to the next.
 ghost use Rattle.std.specs.Prelude.{◌≡◌, ◌<◌, length, slice_set, Some, false};
 ghost use Rattle.tao_requests.specs.Queues.{last_on, linked, kind_after, IsWithin, CanEnter, kind_entering, lasts_entered, lasts_left, waits_entered, IsOnBlockOf};
 ghost use Rattle.tao_model.specs.Events.{is_pad_op};
@@ -8,14 +8,14 @@ use crate::request::Kind;
 use std::alloc::Global;
 use tao_base::{Block, Op};
 
-/// What a request has beside what was asked: the next request on its block, and until it is settled room for its answer.
+/// A request's next one on its block, and until it is settled a buffer for its answer.
 #[derive(Debug, Drop)]
 pub(crate) struct Wait {
     pub next: Option<usize>,
     pub room: Block,
 }
 
-/// Puts the request of this number at the end of its block's queue. It is real where the queue was empty.
+/// Appends the request of this number to its block's queue. It is real if the queue was empty.
 pub(crate) fn enqueue(
     lasts: &mut [Option<usize>],
     waits: &mut [Wait],
@@ -37,7 +37,7 @@ pub(crate) fn enqueue(
     }
 }
 
-/// Puts the request of this number at the end of its block's queue. A pad is in none.
+/// Appends the request of this number to its block's queue; a pad enters none.
 pub(crate) fn enter(lasts: &mut [Option<usize>], waits: &mut [Wait], op: &Op, number: usize) -> Kind
     requires { CanEnter lasts.old (length waits.old) op.now }
     ensures kind { result ≡ kind_entering lasts.old op.now }
@@ -61,7 +61,7 @@ pub(crate) fn leave(lasts: &mut [Option<usize>], op: &Op)
     }
 }
 
-/// The answer that a request has from the first, and room for a later one: a pad is answered at once, and its room is given back.
+/// A request's first answer, and the buffer for a later one: a pad is answered at once, and its buffer is freed.
 pub(crate) fn first_answer(alloc: Global, op: &Op, room: Block) -> (Option<Block>, Block)
     ensures answer { result.0 ≡ first_answer op.now }
     ensures room { is_pad_op op.now ≡ false → result.1 ≡ room }

@@ -12,16 +12,16 @@ use std::alloc::Global;
 use std::marker::Model;
 use tao_base::{Block, NoMemory, Op, Params};
 
-/// What clients asked in a session, in the order of arrival, each with its kind and its answer. Requests begin and are settled without
-/// taking memory, in room that `reserve` made.
+/// The requests of a session in the order of arrival, each with its kind and its answer.
+/// Requests begin and are settled without allocating, in capacity that `reserve` made.
 #[derive(Debug, Drop)]
 pub struct Requests {
     alloc: Global,
     p: Params,
     requests: Vec<Request>,
-    // one for each request
+    // one per request
     waits: Vec<Wait>,
-    // for each block the last request in its queue
+    // the last request in each block's queue
     lasts: Vec<Option<usize>>,
     rooms: Vec<Room>,
 }
@@ -43,7 +43,7 @@ impl Requests {
     ghost use Rattle.tao_requests.specs.State.{fresh, begun, kind_now, request_at, block_of, IsUnderWay};
     ghost use Rattle.tao_requests.specs.Settling.{settled, value_from, KeepsAnswers};
 
-    /// No requests, and no room for any.
+    /// No requests and no capacity.
     pub fn new(alloc: Global, p: &Params) -> Result<Requests, NoMemory>
         ensures { IfOk result (λ r. r ≡ fresh p.now) }
     {
@@ -57,7 +57,7 @@ impl Requests {
         })
     }
 
-    /// Makes room for one request, where there is none.
+    /// Makes capacity for one request, unless there is some.
     pub fn reserve(&mut self) -> Result<(), NoMemory>
         ensures ok { OnOk result (self.new ≡ record self.old { spare = max self.old.spare 1 }) }
         ensures err { OnErr result (self.new ≡ self.old) }
@@ -70,7 +70,7 @@ impl Requests {
         Ok(())
     }
 
-    /// The next request. Its value is copied into room that was made for it.
+    /// Begins the next request. Its value is copied into a preallocated buffer.
     pub fn begin(&mut self, arrival: u64, op: &Op) -> Kind
         requires spare { 0 < self.old.spare }
         requires next { arrival ≡ length self.old.requests }
@@ -91,8 +91,8 @@ impl Requests {
         kind
     }
 
-    /// The fetch of this real request was done and found this value of its block: answers all that wait on the block, and leaves the
-    /// value after them.
+    /// A real request's fetch is done and found this value of its block: answers all requests that wait on the block,
+    /// and leaves the value after them.
     pub fn settle(&mut self, arrival: u64, value: &mut Block)
         requires under_way { IsUnderWay self.old.requests arrival }
         requires value { length value.old ≡ self.old.shape.b }
@@ -121,7 +121,7 @@ impl Requests {
         self.requests[arrival as usize].kind
     }
 
-    /// The block of a request that is no pad.
+    /// The block of a request that isn't a pad.
     pub fn block_of(&self, arrival: u64) -> u32
         requires arrived { arrival < length self.now.requests }
         requires no_pad { is_pad_op (request_at self.now.requests arrival).op ≡ false }

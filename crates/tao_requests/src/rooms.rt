@@ -1,11 +1,11 @@
-//! Rooms for the bytes of a request, made beforehand.
+//! Preallocated buffers for the bytes of a request.
 ghost use Rattle.std.specs.Prelude.{◌≡◌, ◌+◌, ◌<◌, length, vec_len, IfOk, All};
 ghost use Rattle.tao_requests.specs.Rooms.{IsRoom, FitsIn};
 
 use std::alloc::Global;
 use tao_base::{Block, NoMemory, Op, Params};
 
-/// Room for an answer, and for the value of a write.
+/// Buffers for an answer and for the value of a write.
 #[derive(Debug, Drop)]
 pub(crate) struct Room {
     pub answer: Block,
@@ -27,7 +27,7 @@ fn new_block(alloc: Global, p: &Params) -> Result<Block, NoMemory>
     Ok(Block::from_vec(vec![in alloc; 0; p.b() as usize]?))
 }
 
-/// Takes the last of the rooms.
+/// Takes the last of the buffers.
 pub(crate) fn take_room(p: &Params, rooms: &mut Vec<Room>) -> Room
     requires some { 0 < vec_len rooms.old }
     requires each { All (IsRoom p.now) rooms.old.items }
@@ -41,7 +41,7 @@ pub(crate) fn take_room(p: &Params, rooms: &mut Vec<Room>) -> Room
     }
 }
 
-/// The same operation, the value of a write in this room.
+/// The same operation; a write's value is copied into this buffer.
 pub(crate) fn copy_op(op: &Op, mut room: Block) -> Op
     requires { FitsIn room op.now }
     ensures { result ≡ op.now }

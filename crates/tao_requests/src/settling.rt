@@ -12,7 +12,7 @@ use std::alloc::Global;
 use std::mem;
 use tao_base::{Block, Op};
 
-/// Answers the request with the value before it, in its room, and leaves the value after it.
+/// Answers the request with the value before it, in its buffer, and leaves the value after it.
 fn answer(alloc: Global, request: &mut Request, room: &mut Block, value: &mut Block)
     requires room { length room.old ≡ length value.old }
     requires written { FitsIn value.old request.old.op }
@@ -27,7 +27,7 @@ fn answer(alloc: Global, request: &mut Request, room: &mut Block, value: &mut Bl
     }
 }
 
-/// Answers this request and those behind it in its block's queue, each with the value before it, and leaves the value after the last.
+/// Answers this request and the later ones in its block's queue, each with the value before it, and leaves the value after the last.
 pub(crate) fn settle_queue(
     alloc: Global,
     requests: &mut [Request],

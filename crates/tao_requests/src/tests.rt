@@ -6,7 +6,7 @@ use std::alloc::Global;
 use std::test::Fail;
 use tao_base::{Block, NoMemory, Op, Params};
 
-// Makes room for the next request, and begins it.
+// Reserves and begins the next request.
 fn ask(requests: &mut Requests, arrival: u64, op: &Op) -> Result<Kind, NoMemory>
     requires next { arrival ≡ length requests.old.requests }
     requires op { IsInRange requests.old.shape op.now }
@@ -17,7 +17,7 @@ fn ask(requests: &mut Requests, arrival: u64, op: &Op) -> Result<Kind, NoMemory>
     Ok(requests.begin(arrival, op))
 }
 
-// Whether the request is answered these bytes.
+// Whether these bytes are the request's answer.
 fn is_answered(requests: &Requests, arrival: u64, bytes: &[u8]) -> bool
     requires { arrival < length requests.now.requests }
 {
@@ -27,7 +27,7 @@ fn is_answered(requests: &Requests, arrival: u64, bytes: &[u8]) -> bool
     }
 }
 
-// Settles a request whose fetch is under way with a value of four bytes, and tells whether these are the bytes that are left.
+// Settles a request under way with this value; returns whether `left` remains.
 fn settles(
     alloc: Global,
     requests: &mut Requests,
@@ -48,8 +48,8 @@ fn settles(
     Ok(value.as_slice() == left)
 }
 
-// Two reads with a write between them and a write behind them overlap on block 1, with a pad and a read of block 0 among them. The
-// first one's Done settles the four. The next on the block is real again.
+// On block 1 two reads overlap with a write between them and one after, and with a pad and a read of block 0.
+// The first one's Done settles all four; the next request on block 1 is real again.
 #[test]
 fn settled_in_the_order_of_arrival(rt: HostRuntime) -> Result<(), Fail> {
     let alloc = rt.alloc();

@@ -1,4 +1,4 @@
--- Sessions that look alike go on alike. Moves and events are newest first.
+-- Sessions that are alike stay alike. Moves and events are newest first.
 use Rattle.std.proofs.Common.{◌≡◌, ℕ, ◌+◌, ◌-◌, ◌*◌, ◌<◌, Bool, true, false, not, ◌&&◌, ◌||◌, cond, List, [], ◌∷◌, ◌++◌, map, filter, reverse, Some, None, refl, sym, ap, ◌∙◌, subst, arith, inl, inr, ◌⊎◌, nat_eq}
 use Rattle.std.specs.Prelude.{⊤}
 use Rattle.std.specs.List.{list_all}
@@ -30,7 +30,7 @@ use Rattle.tao_schedule.specs.Alike.{IsSession, SameLeaves, AreAlike, AlikeSteps
 use Rattle.tao_schedule.proofs.ServerVersions.{under_parts}
 use Rattle.tao_schedule.proofs.ToldEvents.{bare, arrived_bare, dones_bare, issues_bare, done_bare, acked_bare, steps_bare, told, goes_lawful, bare_is_told, SeenSame, seen_told, served_seen, applied_seen, nodes_again, nodes_are_again, issued_has}
 
--- ---- what two sessions with the same moves have in common
+-- ---- what two sessions with the same moves share
 
 bare_same : (es : List Event) → SeenSame (bare es) es
 bare_same es = record { arrived = arrived_bare es; dones = dones_bare es; issues = issues_bare es; done = done_bare es; acked = acked_bare es; steps = steps_bare es }
@@ -224,7 +224,7 @@ moves_seen o ms es word (What.Ack version) = refl
 pub tests_need_no_op : TestsNeedNoOp
 tests_need_no_op o ms es what = (misplaced_seen o ms es what, full_seen o es what)
 
--- ---- going on
+-- ---- staying alike
 
 abbrev pub onto : List Move → List Move → List Move
 onto [] ms = ms
@@ -249,7 +249,7 @@ unfolding GoOn
 go_lawful o ms es [] later now g f = subst (FollowsLawfully o) g.1 f
 go_lawful o ms es (m ∷ rest) later now g f = goes_lawful o ms es m g.0 g.1 (go_lawful o (m ∷ ms) g.0 rest later now g.2 f)
 
--- an arrival fetches what it fetched
+-- earlier arrivals fetch the same leaves as before
 abbrev Keeps : Opening → List Event → List Event → Type 0
 Keeps o es now = (i : ℕ) → i < arrived es → (i < arrived now) × (fetched_leaf o now i ≡ fetched_leaf o es i)
 
@@ -324,7 +324,7 @@ pub step_lawful : (o : Opening) (word : ℕ → ℕ) (ms : List Move) (es : List
 unfolding IsStep
 step_lawful o word ms es what later now g f = parts_lawful o word ms es (what ∷ rest_of o es what) later now g f
 
--- ---- what has no arrival
+-- ---- events without an arrival
 
 abbrev pub AreQuiet : List Event → Type 0
 AreQuiet [] = ⊤
@@ -334,7 +334,7 @@ AreQuiet (Issue version nonce buckets ∷ es) = AreQuiet es
 AreQuiet (Acked version ∷ es) = AreQuiet es
 AreQuiet (Fault cause ∷ es) = AreQuiet es
 
--- events without an arrival stand in front
+-- only events without an arrival were added
 pub record IsQuiet (es now : List Event) : Type 0 where
   pub added : List Event
   pub quiet : AreQuiet added
@@ -388,7 +388,7 @@ quiet_taking o es fetch now t = either t.1 t.2
     either taken (inl is) = record { added = Done fetch taken ∷ []; quiet = tt; split = is }
     either taken (inr (version, nonce, buckets, is)) = record { added = Issue version nonce buckets ∷ Done fetch taken ∷ []; quiet = tt; split = is }
 
--- a part is its arrival, if it has one, and nothing more
+-- a part adds its arrival, if it has one, and no other
 pub part_is_quiet : (o : Opening) (word : ℕ → ℕ) (ms : List Move) (es : List Event) (what : What) (later : List Move) (now : List Event) → IsPart o word ms es what later now
     → IsQuiet (asked_behind word es what) now
 unfolding IsPart moves_of GoOn Goes
@@ -435,7 +435,7 @@ parts_are_quiet o word ms es [] later now none g = no_more es now g.1
 parts_are_quiet o word ms es (what ∷ rest) later now none g =
     quiet_both es g.1 now (subst (λ l. IsQuiet l g.1) (asks_none word es what none.0) (part_is_quiet o word ms es what g.0 g.1 g.2)) (parts_are_quiet o word g.0 g.1 rest later now none.1 g.3)
 
--- a step is its arrival, if it has one, and no other
+-- a step adds its arrival, if it has one, and no other
 pub step_is_quiet : (o : Opening) (word : ℕ → ℕ) (ms : List Move) (es : List Event) (what : What) (later : List Move) (now : List Event) → IsStep o word ms es what later now
     → IsQuiet (asked_behind word es what) now
 unfolding IsStep AreParts
@@ -486,7 +486,7 @@ back_leaves o es now other others thus h k l leaves i there =
     let as_many = h.arrived in
     sym first.1 ∙ leaves i first.0 ∙ (l i (omega arith)).1
 
--- the same part, but for its operation and word
+-- two parts that differ only in operation and word
 part_alike : (o : Opening) (word : ℕ → ℕ) (ms : List Move) (es : List Event) (what : What) (later : List Move) (now : List Event)
     (other : Opening) (words : ℕ → ℕ) (ns : List Move) (others : List Event) (which : What) (newer : List Move) (thus : List Event)
     → IsSession o ms es → IsSession other ns others → AreAlike o ms es other ns others → seen_step what ≡ seen_step which
@@ -527,7 +527,7 @@ parts_alike o word ms es (what ∷ rest) later now other words ns others newer t
     (part_schedule other words ns others what k.0 k.1 t k.2) f d shape
     (part_alike o word ms es what g.0 g.1 other words ns others what k.0 k.1 one two alike refl g.2 k.2) leaves g.3 k.3
 
--- the first part and the same rest
+-- alike first parts and the same rest
 step_alike : (o : Opening) (word : ℕ → ℕ) (ms : List Move) (es : List Event) (what : What) (rest : List What) (later : List Move) (now : List Event)
     (other : Opening) (words : ℕ → ℕ) (ns : List Move) (others : List Event) (which : What) (newer : List Move) (thus : List Event)
     → IsSession o ms es → IsSession other ns others → FollowsLawfully o now → FollowsLawfully other thus → AreAlike o ms es other ns others → seen_step what ≡ seen_step which
@@ -538,7 +538,7 @@ step_alike o word ms es what rest later now other words ns others which newer th
     (part_schedule other words ns others which k.0 k.1 t.schedule k.2) f d a.shape
     (part_alike o word ms es what g.0 g.1 other words ns others which k.0 k.1 s t a same g.2 k.2) leaves g.3 k.3
 
--- where all arrivals behind the step fetch the same leaves
+-- if all arrivals after the step fetch the same leaves
 leaves_go_on : (o : Opening) (word : ℕ → ℕ) (ms : List Move) (es : List Event) (what : What) (later : List Move) (now : List Event)
     (other : Opening) (words : ℕ → ℕ) (ns : List Move) (others : List Event) (which : What) (newer : List Move) (thus : List Event)
     → IsSchedule o ms es → IsSchedule other ns others → FollowsLawfully o now → FollowsLawfully other thus
@@ -595,7 +595,7 @@ word_bare (Issue version nonce buckets ∷ es) i = word_bare es i
 word_bare (Acked version ∷ es) i = word_bare es i
 word_bare (Fault cause ∷ es) i = word_bare es i
 
--- records that differ in contents alone fetch the same
+-- records that differ only in contents fetch the same leaves
 bare_leaf : (o : Opening) (es : List Event) (other : Opening) (others : List Event) → o.shape ≡ other.shape → o.words ≡ other.words → bare es ≡ bare others → (i : ℕ)
     → fetched_leaf o es i ≡ fetched_leaf other others i
 bare_leaf o es other others shape words same i =
@@ -691,7 +691,7 @@ one_schedule o word steps ms es other ns others shape words f d p q =
           (record { schedule = played_schedule other word steps ns others q; follows = d }) shape words same,
     )
 
--- ---- fronts
+-- ---- prefixes
 
 pub asked_front : (word : ℕ → ℕ) (es : List Event) (what : What) → (front : List Event) × (asked_behind word es what ≡ front ++ es)
 asked_front word es (What.Do client op) = (Arrive client op (word (arrived es)) ∷ [], refl)
@@ -701,7 +701,7 @@ asked_front word es (What.Done fetch) = ([], refl)
 asked_front word es (What.Put version bucket) = ([], refl)
 asked_front word es (What.Ack version) = ([], refl)
 
--- a step puts events in front
+-- a step adds its events at the front of the list
 step_front : (o : Opening) (word : ℕ → ℕ) (ms : List Move) (es : List Event) (what : What) (later : List Move) (now : List Event) → IsStep o word ms es what later now
     → (front : List Event) × (now ≡ front ++ es)
 step_front o word ms es what later now g =

@@ -98,7 +98,7 @@ reads_go o ms es fetch way =
     (λ w h. let both = filtered (λ node. not (is_served ms fetch node)) (path o.shape.l (fetched_leaf o es fetch)) w h in
     (on_path_has o.shape.l (fetched_leaf o es fetch) w ∙ both.1, not-true (is_served ms fetch w) both.0))
 
--- the node of a path at a depth is on it
+-- the node at each depth of a path is on it
 depth_on : (o : Opening) (es : List Event) (i depth : ℕ) → depth ≤ o.shape.l → fetches o es i (node_at o.shape.l (fetched_leaf o es i) depth) ≡ true
 depth_on o es i depth low =
     let long : length (path o.shape.l (fetched_leaf o es i)) ≡ o.shape.l + 1 = length-map-range_with_len (node_at o.shape.l (fetched_leaf o es i)) 0 (o.shape.l + 1) in

@@ -1,4 +1,4 @@
--- What is acknowledged has reached the server. Moves and events are newest first.
+-- Acknowledged write-backs have reached the server. Moves and events are newest first.
 use Rattle.std.proofs.Common.{◌≡◌, ℕ, ◌+◌, ◌≤◌, Bool, true, false, ◌&&◌, cond, List, [], ◌∷◌, reverse, max, is_some, sym, ap, ◌∙◌, subst, arith, inl, inr, ◌⊎◌, nat_eq}
 use Rattle.std.proofs.Math.Nat.{le-max_right}
 use Rattle.std.proofs.lemmas.Bool.{eqb-true, true≢false, and_parts, or_cases}
@@ -31,7 +31,7 @@ acked_known o (Acked version ∷ es) v f h = either (or_cases (nat_eq version v)
     either (inr earlier) ih = ih earlier
 acked_known o (Fault cause ∷ es) v f h = acked_known o es v f.0 h
 
--- what is acknowledged and has the node has reached the server
+-- an acknowledged write-back of the node has reached the server
 abbrev IsReached : List Move → List Event → ℕ → ℕ → Type 0
 IsReached ms es v node = is_acked es v ≡ true → is_issued es v node ≡ true → v ≤ server_version ms node
 

@@ -1,4 +1,4 @@
--- The server has what the proxy let go. Moves and events are newest first.
+-- The server has the nodes that the proxy let go. Moves and events are newest first.
 use Rattle.std.proofs.Common.{◌≡◌, ℕ, ◌+◌, ◌<◌, ◌≤◌, Bool, true, false, not, ◌&&◌, ◌||◌, cond, List, [], ◌∷◌, max, is_some, refl, sym, ap, ◌∙◌, subst, arith, inl, inr, ◌⊎◌, nat_eq, nat_lt}
 use Rattle.std.proofs.Math.Nat.{max-eq_right, max-le, le-max_left, le-max_right}
 use Rattle.std.proofs.lemmas.Bool.{eqb-true, ltb-true, lt-ltb, true≢false, and_parts, and_cases, and_from, or_parts, or_cases, not-true, not-false, not_from_false}
@@ -18,7 +18,7 @@ use Rattle.tao_schedule.specs.Moves.{Move, Arrives, Serves, Completes, Applies, 
 use Rattle.tao_schedule.specs.Schedules.{Goes, IsSchedule, TakesIn}
 use Rattle.tao_schedule.specs.Laws.{ServerInStep, StaysInStep}
 
--- ---- what is under way
+-- ---- under way
 
 pub under_parts : (es : List Event) (i : ℕ) → is_under_way es i ≡ true → (i < arrived es) × (is_done es i ≡ false)
 under_parts es i h =
@@ -35,7 +35,7 @@ covers o es i node way on none =
     true≢false (sym (and_from (not (is_done es i)) (fetches o es i node) (not_from_false (is_done es i) parts.1) on)
     ∙ none_passes (λ j. not (is_done es j) && fetches o es j node) (arrived es) none i parts.0)
 
--- ---- what was served was asked, and what was applied is reached
+-- ---- a served read was requested, and an applied write arrived
 
 taken_arrived : (o : Opening) (es : List Event) (fetch : ℕ) (now : List Event) → TakesIn o es fetch now → arrived now ≡ arrived es
 taken_arrived o es fetch now t = either t.2

@@ -1,4 +1,4 @@
--- A session told again with other operations, and the second one that plays it. Events, moves and steps are newest first.
+-- A session replayed with other operations: the second session plays it. Events, moves and steps are newest first.
 use Rattle.std.proofs.Common.{◌≡◌, ℕ, false, ◌+◌, ◌-◌, ◌<◌, ◌≤◌, not, cond, List, [], ◌∷◌, ◌++◌, map, filter, reverse, slice_index, refl, sym, ap, ◌∙◌, subst, arith, inl, inr, ◌⊎◌, nat_eq}
 use Rattle.std.specs.List.{list_any, position_or_len, range_with_len}
 use Rattle.std.proofs.lemmas.Bool.{cases_lt, eq-eqb, lt-ltb, le-ltb}
@@ -34,7 +34,7 @@ use Rattle.tao_schedule.specs.Schedules.{IsSchedule}
 use Rattle.tao_schedule.proofs.DrainedSessions.{drain_goes_on, drain_is_quiet, drains_alike}
 use Rattle.tao_schedule.proofs.AlikeSessions.{asked_front, played_front, AreQuiet, IsQuiet, quiet_arrived, as_many_arrived, step_is_quiet, step_lawful, played_schedule, alike_steps, alike_tests, alike_go_on, played_is_allowed, tests_need_no_op}
 
--- ---- what stays when the operations are other ones
+-- ---- what doesn't depend on the operations
 
 steps_retold : (f : ℕ → Op) (es : List Event) → steps_of (retold f es) ≡ steps_of es
 steps_retold f [] = refl
@@ -85,7 +85,7 @@ used_told f o es other others shape steps told i =
     used_by o (retold f es) other others shape (steps_retold f es ∙ steps)
     (ops_retold f es ∙ ap (asked_ops f) steps ∙ sym (ops_retold f others) ∙ ap ops told) i
 
--- ---- a front told again
+-- ---- a replayed prefix
 
 used_front : (f : ℕ → Op) (o : Opening) (later es : List Event) (i : ℕ) → i < arrived es → word_used o (retold f (later ++ es)) i ≡ word_used o (retold f es) i
 used_front f o [] es i h = refl
@@ -282,7 +282,7 @@ none_alike o ms es other ns others shape m e n = record {
   moves = ap (map seen) (m ∙ sym n);
 }
 
--- the second session's next step, where the first has played it
+-- the second session's next step, if the first has played it
 record IsNext (f : ℕ → Op) (tape : ℕ → ℕ) (o : Opening) (word : ℕ → ℕ) (before : List Event) (what : What) (whole es : List Event) : Type 0 where
   asked_in : (more : List Event) × (whole ≡ more ++ asked_behind word before what)
   before_in : (more : List Event) × (whole ≡ more ++ before)

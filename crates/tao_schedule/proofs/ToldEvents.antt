@@ -1,4 +1,4 @@
--- What moves tell of a record: its events, with contents left out, and all that looks back on them. Moves and events are newest first.
+-- The events that the moves of a record determine, and look-backs on them, without contents. All lists are newest first.
 use Rattle.std.proofs.Common.{◌≡◌, ℕ, ◌+◌, ◌*◌, ◌<◌, Bool, true, false, ◌&&◌, ◌||◌, cond, List, [], ◌∷◌, map, is_some, refl, ap, ◌∙◌, subst, arith, inl, inr, ◌⊎◌, nat_eq}
 use Rattle.std.proofs.lemmas.Bool.{eq-eqb, ne_eqb, eqb-true}
 use Rattle.tao_base.specs.declared.session.Event.{Event}
@@ -80,9 +80,9 @@ steps_bare (Issue version nonce buckets ∷ es) = rw (steps_bare es) refl
 steps_bare (Acked version ∷ es) = rw (steps_bare es) refl
 steps_bare (Fault cause ∷ es) = steps_bare es
 
--- ---- told by the moves
+-- ---- events rebuilt from the moves
 
--- a Done behind these events, and the write-back that it makes due
+-- the events with one more Done, and the write-back if it is due
 abbrev pub taking : Shape → ℕ → List Event → List Event
 taking s fetch es = cond (nat_eq (dones es + 1) ((issues es + 1) * s.k)) (Issue (issues es + 1) 0 [] ∷ Done fetch [] ∷ es) (Done fetch [] ∷ es)
 
@@ -94,7 +94,7 @@ told s (Completes fetch ∷ ms) = taking s fetch (told s ms)
 told s (Applies version applied ∷ ms) = told s ms
 told s (Acknowledges version ∷ ms) = Acked version ∷ told s ms
 
--- what a Done and its write-back make of the bare events
+-- a Done and its write-back, without contents
 taking_bare : (o : Opening) (es : List Event) (fetch : ℕ) (now : List Event) → TakesIn o es fetch now → FollowsLawfully o now → bare now ≡ taking o.shape fetch (bare es)
 taking_bare o es fetch now t f = either t.2
   where
@@ -138,18 +138,9 @@ unfolding IsSchedule
 bare_is_told o [] es s f = ap bare s
 bare_is_told o (m ∷ ms) es s f = goes_told o ms s.0 m es s.2 f (bare_is_told o ms s.0 s.1 (goes_lawful o ms s.0 m es s.2 f))
 
--- ---- told by the moves as the server sees them
+-- ---- events rebuilt from the moves as the server sees them
 
-taking_steps : (s : Shape) (fetch : ℕ) (es others : List Event) → dones es ≡ dones others → issues es ≡ issues others → steps_of es ≡ steps_of others
-    → steps_of (taking s fetch es) ≡ steps_of (taking s fetch others)
-taking_steps s fetch es others d i steps = rw (d, i) (either (nat_eq (dones others + 1) ((issues others + 1) * s.k)))
-  where
-    either : (t : Bool) → steps_of (cond t (Issue (issues others + 1) 0 [] ∷ Done fetch [] ∷ es) (Done fetch [] ∷ es))
-        ≡ steps_of (cond t (Issue (issues others + 1) 0 [] ∷ Done fetch [] ∷ others) (Done fetch [] ∷ others))
-    either true = rw steps refl
-    either false = rw steps refl
-
--- what of the told events needs neither operation nor word
+-- the look-backs that need neither operation nor word
 pub record SeenSame (es others : List Event) : Type 0 where
   pub arrived : arrived es ≡ arrived others
   pub dones : dones es ≡ dones others
@@ -235,7 +226,7 @@ or_none : (t : Bool) → (t || false) ≡ t
 or_none true = refl
 or_none false = refl
 
--- a version has just these nodes
+-- a version has exactly these nodes
 pub issued_has : (o : Opening) (es : List Event) (v node : ℕ) → FollowsLawfully o es → is_issued es v node ≡ has node (nodes_issued es v)
 issued_has o [] v node f = refl
 issued_has o (Arrive client op word ∷ es) v node f = issued_has o es v node f.0

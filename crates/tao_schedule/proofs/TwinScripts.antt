@@ -1,4 +1,4 @@
--- A script told again, the oldest step first.
+-- A replayed script, the oldest step first.
 use Rattle.std.proofs.Common.{◌≡◌, ℕ, zero, suc, ◌+◌, ◌<◌, false, cond, List, [], ◌∷◌, ◌++◌, reverse, take, length, get_or, refl, sym, ap, ◌∙◌, subst, arith}
 use Rattle.std.proofs.lemmas.List.{reverse-append, append_assoc, append-nil}
 use Rattle.tao_base.specs.declared.calls.Op.{Op}
@@ -23,7 +23,7 @@ told_take f n zero (x ∷ xs) = refl
 told_take f n (suc k) [] = refl
 told_take f n (suc k) (x ∷ xs) = ap (λ l. with_op (f n) x ∷ l) (told_take f (cond (is_arrival x) (n + 1) n) k xs)
 
--- how many arrivals stand before the k-th step
+-- n plus the number of arrivals among these steps
 abbrev counted : ℕ → List What → ℕ
 counted n [] = n
 counted n (x ∷ xs) = counted (cond (is_arrival x) (n + 1) n) xs

@@ -1,4 +1,4 @@
--- The worked schedule computes.
+-- The worked schedule, by computing.
 use Rattle.std.proofs.Common.{ℕ, [], ◌∷◌, reverse, take, drop, refl, sym, ap, ◌∙◌, subst, arith, inr}
 use Rattle.std.proofs.lemmas.List.{take-append-drop, reverse-append}
 use Rattle.tao_model.specs.Lawful.{FollowsLawfully}

@@ -1,4 +1,4 @@
--- Sessions that look alike to the server, whatever they are asked. Moves and events are newest first.
+-- Sessions that look alike to the server, whatever their operations. Moves and events are newest first.
 use Rattle.std.specs.Prelude.{◌≡◌, ℕ, ◌<◌, true, false, ◌||◌, List, ◌∷◌, ◌++◌, map}
 use Rattle.tao_base.specs.declared.session.Event.{Event}
 use Rattle.tao_base.specs.Session.{Opening}
@@ -11,16 +11,16 @@ use Rattle.tao_schedule.specs.Moves.{Move, seen}
 use Rattle.tao_schedule.specs.Schedules.{IsSchedule}
 use Rattle.tao_schedule.specs.Steps.{is_misplaced, is_full, moves_of, rest_of, seen_step, asked_behind, IsStep, ArePlayed}
 
--- a session as far as it came: its moves are allowed, and its events lawful
+-- a session so far: its moves are allowed, and its events lawful
 pub record IsSession (o : Opening) (ms : List Move) (es : List Event) : Type 0 where
   pub schedule : IsSchedule o ms es
   pub follows : FollowsLawfully o es
 
--- the arrivals of the first fetch the leaves that those of the second fetch
+-- the arrivals of both fetch the same leaves
 abbrev pub SameLeaves : Opening → List Event → Opening → List Event → Type 0
 SameLeaves o es other others = (i : ℕ) → i < arrived es → fetched_leaf o es i ≡ fetched_leaf other others i
 
--- the same parameters, leaves and moves, but for the operations and words of arrivals
+-- equal parameters and leaves, and equal moves except for the operations and words of arrivals
 pub record AreAlike (o : Opening) (ms : List Move) (es : List Event) (other : Opening) (ns : List Move) (others : List Event) : Type 0 where
   pub shape : o.shape ≡ other.shape
   pub leaves : SameLeaves o es other others
@@ -31,7 +31,7 @@ abbrev pub AlikeSteps : Type 0
 AlikeSteps = (o : Opening) (ms : List Move) (es : List Event) (other : Opening) (ns : List Move) (others : List Event)
     → IsSession o ms es → IsSession other ns others → AreAlike o ms es other ns others → steps_of es ≡ steps_of others
 
--- what a step is, in two sessions: misplaced or not, full or not, the same rest, and the same moves where it isn't misplaced
+-- a step in two sessions: equally misplaced, equally full, with the same rest and, if it isn't misplaced, the same moves
 pub record IsStepAlike (o : Opening) (ms : List Move) (es : List Event) (other : Opening) (ns : List Move) (others : List Event) (what : What) : Type 0 where
   pub misplaced : is_misplaced o ms es what ≡ is_misplaced other ns others what
   pub full : is_full o es what ≡ is_full other others what
@@ -43,12 +43,12 @@ abbrev pub AlikeTests : Type 0
 AlikeTests = (o : Opening) (ms : List Move) (es : List Event) (other : Opening) (ns : List Move) (others : List Event) (what : What)
     → IsSession o ms es → IsSession other ns others → AreAlike o ms es other ns others → IsStepAlike o ms es other ns others what
 
--- Whether a step is misplaced or full doesn't rest on its operation.
+-- Whether a step is misplaced or full doesn't depend on its operation.
 abbrev pub TestsNeedNoOp : Type 0
 TestsNeedNoOp = (o : Opening) (ms : List Move) (es : List Event) (what : What)
     → (is_misplaced o ms es (seen_step what) ≡ is_misplaced o ms es what) × (is_full o es (seen_step what) ≡ is_full o es what)
 
--- A step that is played makes a session of a session.
+-- Playing a step of a schedule gives a schedule.
 abbrev pub StepGoesOn : Type 0
 StepGoesOn = (o : Opening) (word : ℕ → ℕ) (ms : List Move) (es : List Event) (what : What) (later : List Move) (now : List Event)
     → IsSchedule o ms es → IsStep o word ms es what later now → IsSchedule o later now
@@ -58,7 +58,7 @@ abbrev pub PlayedIsAllowed : Type 0
 PlayedIsAllowed = (o : Opening) (word : ℕ → ℕ) (ms : List Move) (es : List Event) (what : What) (later : List Move) (now : List Event)
     → IsStep o word ms es what later now → (is_misplaced o ms es what ≡ false) × (is_full o es what ≡ false)
 
--- Sessions that are alike stay alike by the same step, whatever its operation and word, where the new arrival, if there is one, fetches the same leaf.
+-- Sessions stay alike by the same step, whatever its operation and word, if the new arrival (if any) fetches the same leaf.
 abbrev pub AlikeGoOn : Type 0
 AlikeGoOn = (o : Opening) (word : ℕ → ℕ) (ms : List Move) (es : List Event) (what : What) (later : List Move) (now : List Event)
     (other : Opening) (words : ℕ → ℕ) (ns : List Move) (others : List Event) (which : What) (newer : List Move) (thus : List Event)
@@ -66,13 +66,13 @@ AlikeGoOn = (o : Opening) (word : ℕ → ℕ) (ms : List Move) (es : List Event
     → AreAlike o ms es other ns others → seen_step what ≡ seen_step which → IsStep o word ms es what later now → IsStep other words ns others which newer thus
     → SameLeaves o (asked_behind word es what) other (asked_behind words others which) → AreAlike o later now other newer thus
 
--- One script has one schedule: two sessions of the same steps with the same words have the same moves, and are alike.
+-- One script has one schedule: two sessions of the same steps and words have the same moves and are alike.
 abbrev pub OneSchedule : Type 0
 OneSchedule = (o : Opening) (word : ℕ → ℕ) (steps : List What) (ms : List Move) (es : List Event) (other : Opening) (ns : List Move) (others : List Event)
     → o.shape ≡ other.shape → o.words ≡ other.words → FollowsLawfully o es → FollowsLawfully other others
     → ArePlayed o word steps ms es → ArePlayed other word steps ns others → (ms ≡ ns) × AreAlike o ms es other ns others
 
--- a front of a played session: its moves and events, and the events that came behind
+-- a prefix of a played session: its moves and events, and the events after it
 pub record IsPlayedFront (o : Opening) (word : ℕ → ℕ) (steps : List What) (es : List Event) : Type 0 where
   pub moves : List Move
   pub events : List Event
@@ -80,12 +80,12 @@ pub record IsPlayedFront (o : Opening) (word : ℕ → ℕ) (steps : List What) 
   pub played : ArePlayed o word steps moves events
   pub split : es ≡ later ++ events
 
--- A session that has played more steps has played these.
+-- A session that has played more steps has a prefix that played these.
 abbrev pub PlayedFront : Type 0
 PlayedFront = (o : Opening) (word : ℕ → ℕ) (rest steps : List What) (ms : List Move) (es : List Event) → ArePlayed o word (rest ++ steps) ms es
     → IsPlayedFront o word steps es
 
--- So a step that is misplaced or full once, behind these steps, is so always: no session of the same words plays it.
+-- So a step that is misplaced or full after these steps always is: no session of the same words plays it.
 abbrev pub MisplacedStays : Type 0
 MisplacedStays = (o : Opening) (word : ℕ → ℕ) (rest steps : List What) (what : What) (ms : List Move) (es : List Event) (other : Opening) (ns : List Move) (others : List Event)
     → o.shape ≡ other.shape → o.words ≡ other.words → FollowsLawfully o es → FollowsLawfully other others

@@ -14,8 +14,8 @@ use Rattle.tao_schedule.specs.Moves.{Move, Acknowledges, server_version, served_
 use Rattle.tao_schedule.specs.Schedules.{IsSchedule, Goes, GoOn}
 use Rattle.tao_schedule.specs.Steps.{is_misplaced, is_full, moves_of}
 
--- The server is in step at a node: it has no version that isn't issued. A node that the proxy doesn't hold it has in its newest version, and had
--- so when it read it for a fetch that is under way.
+-- The server is in step at a node: it has no version that wasn't issued. If the proxy doesn't hold the node, the server has
+-- its latest version, and had it when it read the node for a fetch under way.
 pub record ServerInStep (o : Opening) (ms : List Move) (es : List Event) (node : ℕ) : Type 0 where
   pub not_ahead : server_version ms node ≤ newest_version es node
   pub away : is_resident o es node ≡ false → server_version ms node ≡ newest_version es node
@@ -30,16 +30,16 @@ StaysInStep = (o : Opening) (ms : List Move) (es : List Event) (node : ℕ) → 
 abbrev pub IsAllAcked : List Event → Type 0
 IsAllAcked es = (v : ℕ) → 0 < v → v ≤ issues es → is_acked es v ≡ true
 
--- Once all write-backs are acknowledged, the server has the newest version of every node, whether the proxy holds it or not.
+-- Once all write-backs are acknowledged, the server has the latest version of every node, whether the proxy holds it or not.
 abbrev pub ServerIsNewest : Type 0
 ServerIsNewest = (o : Opening) (ms : List Move) (es : List Event) (node : ℕ) → IsSchedule o ms es → FollowsLawfully o es → IsAllAcked es
     → server_version ms node ≡ newest_version es node
 
--- these moves may come, one behind the other, and add no event
+-- these moves may come, one after another, and add no event
 abbrev pub ChangesNone : Opening → List Move → List Event → List Move → Type 0
 ChangesNone o ms es moves = GoOn o ms es moves (reverse moves ++ ms) es
 
--- the depth of a read, where it names one, is one of the tree
+-- the depth of a read, if it names one, is within the tree
 abbrev pub HasDepth : Shape → What → Type 0
 HasDepth s (What.Do client op) = ⊤
 HasDepth s (What.A client op) = ⊤
@@ -49,7 +49,8 @@ HasDepth s (What.Done fetch) = ⊤
 HasDepth s (What.Put version bucket) = ⊤
 HasDepth s (What.Ack version) = ⊤
 
--- What a step that is neither misplaced nor full may do: an arrival has room, reads and puts go all of their moves, an acknowledgement comes, and a Done has all that it looks at.
+-- What a step that isn't misplaced or full may do: an arrival has capacity, reads and puts make all their moves,
+-- a Done has its whole path, and an acknowledgement comes.
 abbrev pub MayGo : Opening → List Move → List Event → What → Type 0
 MayGo o ms es (What.Do client op) = arrived es < session_limit o.shape
 MayGo o ms es (What.A client op) = arrived es < session_limit o.shape
@@ -58,13 +59,13 @@ MayGo o ms es (What.Done fetch) = (is_under_way es fetch ≡ true) × ((node : �
 MayGo o ms es (What.Put version bucket) = ChangesNone o ms es (moves_of o ms es 0 (What.Put version bucket))
 MayGo o ms es (What.Ack version) = Goes o ms es (Acknowledges version) (Acked version ∷ es)
 
--- A step that is neither misplaced nor full may do so.
+-- A step that isn't misplaced or full may do so.
 abbrev pub PlacedMayGo : Type 0
 PlacedMayGo = (o : Opening) (ms : List Move) (es : List Event) (what : What) → FollowsLawfully o es → HasDepth o.shape what → is_misplaced o ms es what ≡ false → is_full o es what ≡ false
     → MayGo o ms es what
 
--- What a fetch that is taken in looks at, where the proxy doesn't hold a node, was read from the server under the version of the newest write: what was
--- written there under that version is the newest write itself.
+-- A node that a fetch under way read from the server, and that the proxy doesn't hold, was read in its latest version.
+-- What was written under that version is the latest version.
 abbrev pub ServedIsNewest : Type 0
 ServedIsNewest = (o : Opening) (ms : List Move) (events : List Event) (i node : ℕ) → IsSchedule o ms (reverse events) → FollowsLawfully o (reverse events)
     → is_under_way (reverse events) i ≡ true → fetches o (reverse events) i node ≡ true → is_served ms i node ≡ true → is_resident o (reverse events) node ≡ false

@@ -1,4 +1,4 @@
--- The moves of a session, and what they leave at the server. Moves and events are newest first.
+-- The moves of a session, and the versions that they leave at the server. Moves and events are newest first.
 use Rattle.std.specs.Prelude.{ℕ, ◌==◌, nat_lt, nat_le, max, Bool, false, not, ◌&&◌, ◌||◌, if◌then◌else◌, List, [], ◌∷◌}
 use Rattle.tao_base.specs.declared.calls.Op.{Op}
 use Rattle.tao_base.specs.declared.calls.Op.TheVariants.{Pad}
@@ -7,8 +7,8 @@ use Rattle.tao_base.specs.declared.session.Event.TheVariants.{Arrive, Done, Issu
 use Rattle.tao_model.specs.Events.{arrived, issues, is_done, is_acked}
 use Rattle.tao_model.specs.Trace.{nodes_in}
 
--- A move: a client asks, with the tape word that comes with it; the server reads a node for a fetch; a fetch's whole path reaches the proxy;
--- the server takes in a node of a version; a version's acknowledgement reaches the proxy.
+-- A move: a client asks, with a tape word; the server reads a node for a fetch; a fetch's whole path reaches the proxy;
+-- the server applies a node of a version; a version's acknowledgement reaches the proxy.
 pub data Move : Type 0 where
   Arrives : ℕ → Op → ℕ → Move
   Serves : ℕ → ℕ → Move
@@ -16,7 +16,7 @@ pub data Move : Type 0 where
   Applies : ℕ → ℕ → Move
   Acknowledges : ℕ → Move
 
--- the version that the server has at a node: the greatest that was applied there, or 0 for the load
+-- the server's version of a node: the greatest that was applied, or 0 for the load
 abbrev pub server_version : List Move → ℕ → ℕ
 server_version [] node = 0
 server_version (Arrives client op word ∷ ms) node = server_version ms node
@@ -34,7 +34,7 @@ is_served (Completes fetch ∷ ms) i node = is_served ms i node
 is_served (Applies version applied ∷ ms) i node = is_served ms i node
 is_served (Acknowledges version ∷ ms) i node = is_served ms i node
 
--- the version that the server had at the node when it read it for this fetch, or 0
+-- the server's version of the node when it read it for this fetch, or 0
 abbrev pub served_version : List Move → ℕ → ℕ → ℕ
 served_version [] i node = 0
 served_version (Arrives client op word ∷ ms) i node = served_version ms i node
@@ -43,7 +43,7 @@ served_version (Completes fetch ∷ ms) i node = served_version ms i node
 served_version (Applies version applied ∷ ms) i node = served_version ms i node
 served_version (Acknowledges version ∷ ms) i node = served_version ms i node
 
--- whether the server took in this node of this version
+-- whether the server applied this node of this version
 abbrev pub is_applied : List Move → ℕ → ℕ → Bool
 is_applied [] v node = false
 is_applied (Arrives client op word ∷ ms) v node = is_applied ms v node
@@ -52,7 +52,7 @@ is_applied (Completes fetch ∷ ms) v node = is_applied ms v node
 is_applied (Applies version applied ∷ ms) v node = ((version == v) && (applied == node)) || is_applied ms v node
 is_applied (Acknowledges version ∷ ms) v node = is_applied ms v node
 
--- a fetch that was asked and isn't taken in
+-- a fetch that was requested and isn't done
 abbrev pub is_under_way : List Event → ℕ → Bool
 is_under_way es i = nat_lt i (arrived es) && not (is_done es i)
 
@@ -69,7 +69,7 @@ nodes_issued (Issue version nonce buckets ∷ es) v = if version == v then nodes
 nodes_issued (Acked version ∷ es) v = nodes_issued es v
 nodes_issued (Fault cause ∷ es) v = nodes_issued es v
 
--- a move as the server could tell it: of an arrival, who asks
+-- a move as the server sees it: of an arrival only the client
 abbrev pub seen : Move → Move
 seen (Arrives client op word) = Arrives client Pad 0
 seen (Serves fetch node) = Serves fetch node

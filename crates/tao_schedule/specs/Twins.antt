@@ -1,4 +1,4 @@
--- A session told again with other operations, and a second one that plays it. Events, moves and steps are newest first.
+-- A session replayed with other operations, and a second session that plays it. Events, moves and steps are newest first.
 use Rattle.std.specs.Prelude.{◌≡◌, ℕ, ◌+◌, ◌<◌, false, if◌then◌else◌, List, [], ◌∷◌, ◌++◌, reverse, take, length, slice_index, slice_index_or}
 use Rattle.tao_base.specs.declared.calls.Op.{Op}
 use Rattle.tao_base.specs.declared.session.Event.{Event}
@@ -25,11 +25,11 @@ retold asks (Issue version nonce buckets ∷ es) = Issue version nonce buckets �
 retold asks (Acked version ∷ es) = Acked version ∷ retold asks es
 retold asks (Fault cause ∷ es) = Fault cause ∷ retold asks es
 
--- where a place of the tape goes when the events are told again
+-- where a place of the tape goes in the replay
 abbrev pub retold_place : (ℕ → Op) → Opening → List Event → ℕ → ℕ
 retold_place asks o es place = twin_permutation o es o (retold asks es) place
 
--- the tape for a session told again: the operations are in range, and each word stands where it goes
+-- the tape of the replay: the operations are in range, and each word is where it goes
 pub record IsTwinTape (asks : ℕ → Op) (tape : ℕ → ℕ) (o : Opening) (es : List Event) : Type 0 where
   pub in_range : AreInRange o (retold asks es)
   pub moved : (place : ℕ) → place < o.shape.n + arrived es → tape (retold_place asks o es place) ≡ word_at o es place
@@ -39,13 +39,13 @@ pub record IsTold (asks : ℕ → Op) (tape : ℕ → ℕ) (o : Opening) (es : L
   pub asked : retold asks es ≡ es
   pub words : (place : ℕ) → place < o.shape.n + arrived es → word_at o es place ≡ tape place
 
--- A front of a lawful session and a session of the same steps, with the operations it is told again with and their tape, fetch the same leaves.
+-- A prefix of a lawful session fetches the same leaves as a session of the same steps with the replay's operations and tape.
 abbrev pub TwinLeaves : Type 0
 TwinLeaves = (asks : ℕ → Op) (tape : ℕ → ℕ) (o : Opening) (later es : List Event) (other : Opening) (others : List Event)
     → FollowsLawfully o (later ++ es) → IsTwinTape asks tape o (later ++ es) → o.shape ≡ other.shape → steps_of es ≡ steps_of others → IsTold asks tape other others
     → SameLeaves o es other others
 
--- The permutation that the tape was made by is that of the two plays, once the second has all steps.
+-- The permutation that made the tape is that of the two plays, once the second has played all steps.
 abbrev pub RetoldIsTwin : Type 0
 RetoldIsTwin = (asks : ℕ → Op) (o : Opening) (es : List Event) (other : Opening) (others : List Event) (place : ℕ)
     → o.shape ≡ other.shape → steps_of es ≡ steps_of others → retold asks others ≡ others
@@ -56,7 +56,7 @@ abbrev pub arrivals_in : List What → ℕ
 arrivals_in [] = 0
 arrivals_in (what ∷ steps) = if is_arrival what then arrivals_in steps + 1 else arrivals_in steps
 
--- a step with this operation in place of its own
+-- a step with this operation instead of its own
 abbrev pub with_op : Op → What → What
 with_op x (What.Do client op) = What.Do client x
 with_op x (What.A client op) = What.A client x
@@ -70,12 +70,12 @@ abbrev pub retold_steps : (ℕ → Op) → List What → List What
 retold_steps asks [] = []
 retold_steps asks (what ∷ steps) = with_op (asks (arrivals_in steps)) what ∷ retold_steps asks steps
 
--- The second of two plays: the same parameters, the first words those of the tape, and each arrival's word the tape's next.
+-- The second of two plays takes its first words and each arrival's word from the tape, in order.
 pub record TakesTape (tape : ℕ → ℕ) (o : Opening) (word : ℕ → ℕ) : Type 0 where
   pub first : (block : ℕ) → block < o.shape.n → slice_index o.words block ≡ tape block
   pub next : (i : ℕ) → word i ≡ tape (o.shape.n + i)
 
--- A session that has played the first so many steps told again is alike to the front of the first session that has played these steps.
+-- A session that has played these steps of the replay is alike to the prefix of the first session that has played them.
 abbrev pub TwinIsAlike : Type 0
 TwinIsAlike = (asks : ℕ → Op) (tape : ℕ → ℕ) (o : Opening) (word : ℕ → ℕ) (steps : List What) (ms : List Move) (later es : List Event)
     (other : Opening) (words : ℕ → ℕ) (ns : List Move) (others : List Event)
@@ -90,12 +90,12 @@ TwinMeetsNoFault = (asks : ℕ → Op) (tape : ℕ → ℕ) (o : Opening) (word 
     → ArePlayed o word (rest ++ what ∷ steps) ms es → ArePlayed other words (retold_steps asks steps) ns others
     → (is_misplaced other ns others (with_op (asks (arrivals_in steps)) what) ≡ false) × (is_full other others (with_op (asks (arrivals_in steps)) what) ≡ false)
 
--- a script's steps, the oldest first, with another operation for each arrival; n arrivals stand before them
+-- a script with another operation for each arrival, the oldest step first; n arrivals come before
 abbrev pub retold_script : (ℕ → Op) → ℕ → List What → List What
 retold_script asks n [] = []
 retold_script asks n (what ∷ rest) = with_op (asks n) what ∷ retold_script asks (if is_arrival what then n + 1 else n) rest
 
--- The same law over scripts, the oldest step first: where the first play has played the whole script, no step of the script told again breaks.
+-- The same for scripts, the oldest step first: if the first play has played the whole script, every step of the replay is allowed.
 abbrev pub TwinScriptIsAllowed : Type 0
 TwinScriptIsAllowed = (asks : ℕ → Op) (tape : ℕ → ℕ) (o : Opening) (word : ℕ → ℕ) (script : List What) (k : ℕ) (what : What) (ms : List Move) (later es : List Event)
     (other : Opening) (words : ℕ → ℕ) (ns : List Move) (others : List Event)
@@ -104,15 +104,14 @@ TwinScriptIsAllowed = (asks : ℕ → Op) (tape : ℕ → ℕ) (o : Opening) (wo
     → (is_misplaced other ns others (slice_index_or (retold_script asks 0 script) k what) ≡ false)
     × (is_full other others (slice_index_or (retold_script asks 0 script) k what) ≡ false)
 
--- what the second of two plays comes to: the first one's steps, its words moved, the same stores sent again, and the
--- same trace
+-- two plays look alike: the same steps, the first one's words moved, the same stores sent again, and the same trace
 pub record LooksAlike (o : Opening) (es : List Event) (again : List ℕ) (other : Opening) (others : List Event) (too : List ℕ) : Type 0 where
   pub again_same : again ≡ too
   pub one_shape : IsOneShape (record { opening = o; events = reverse es }) (record { opening = other; events = reverse others })
   pub moved : HasMovedWords o es other others
   pub traces : HasEqualTraces (record { opening = o; events = reverse es }) (record { opening = other; events = reverse others })
 
--- Two plays, both drained, the second with the first one's steps told again and its words moved, look alike to the server.
+-- Two drained plays look alike to the server if the second replays the first one's steps with its words moved.
 abbrev pub TwinsLookAlike : Type 0
 TwinsLookAlike = (asks : ℕ → Op) (tape : ℕ → ℕ) (o : Opening) (word : ℕ → ℕ) (steps : List What) (ms : List Move) (es : List Event) (again : List ℕ) (later : List Move) (now : List Event)
     (other : Opening) (words : ℕ → ℕ) (ns : List Move) (others : List Event) (too : List ℕ) (newer : List Move) (thus : List Event)

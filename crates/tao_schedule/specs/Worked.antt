@@ -1,4 +1,4 @@
--- A worked schedule: two write-backs that are acknowledged the later first, looked at on its way.
+-- A worked schedule: two write-backs, the later acknowledged first, and its state on the way.
 use Rattle.std.specs.Prelude.{◌≡◌, ℕ, Bool, true, false, List, [], ◌∷◌, map, reverse, take, Some, None}
 use Rattle.tao_base.specs.declared.calls.Op.TheVariants.{Read, Write}
 use Rattle.tao_base.specs.declared.session.Event.{Event}
@@ -18,20 +18,20 @@ worked_moves = Arrives 0 (Read 0) 0 ∷ Serves 0 1 ∷ Serves 0 2 ∷ Completes 
     ∷ Arrives 1 (Read 1) 0 ∷ Serves 2 1 ∷ Serves 2 3 ∷ Completes 2
     ∷ Applies 3 1 ∷ Applies 3 3 ∷ Acknowledges 3 ∷ []
 
--- the first so many moves and events, newest first
+-- the first so many moves, newest first
 abbrev pub front_moves : ℕ → List Move
 front_moves count = reverse (take count worked_moves)
 
--- the same of the events
+-- the same for the events
 abbrev pub front_events : ℕ → List Event
 front_events count = reverse (take count write_backs_out_of_order.events)
 
--- which of these steps are misplaced behind so many moves and events
+-- which of these steps are misplaced after so many moves and events
 abbrev pub misplaced_at : ℕ → ℕ → List What → List Bool
 misplaced_at moves events steps = map (is_misplaced write_backs_out_of_order.opening (front_moves moves) (front_events events)) steps
 
--- What is worked out: the steps that may stand while the second fetch is read, while version 2 is put, and once it is put; what the moves of steps
--- are; what the server has, and had when it was asked; and what a drain would do.
+-- Which steps are misplaced on the way, the moves of steps, the server's versions now and at each read, and what a drain
+-- would do.
 pub record IsWorked : Type 0 where
   pub reading : misplaced_at 6 4 (What.Read 1 None ∷ What.Read 1 (Some 0) ∷ What.Read 1 (Some 1) ∷ What.Done 1 ∷ What.Read 0 None ∷ What.Read 2 None ∷ What.Done 0 ∷ What.A 0 (Read 0) ∷ [])
       ≡ false ∷ true ∷ false ∷ true ∷ true ∷ true ∷ true ∷ false ∷ []
@@ -51,6 +51,6 @@ pub record IsWorked : Type 0 where
   pub sent : outstanding (front_events 6) ≡ 1 ∷ 2 ∷ []
   pub sent_later : outstanding (front_events 7) ≡ 1 ∷ []
 
--- All of the moves are allowed, and come to the worked record.
+-- All moves are allowed and lead to the worked record.
 abbrev pub WorkedSchedule : Type 0
 WorkedSchedule = IsSchedule write_backs_out_of_order.opening (reverse worked_moves) (reverse write_backs_out_of_order.events)

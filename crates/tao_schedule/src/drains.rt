@@ -1,17 +1,17 @@
 //! Laws: the drain of a session.
 ghost use Rattle.tao_schedule.specs.Drains.{DrainGoesOn, DrainsAlike, DrainEnds};
 
-/// A drain is a part of a schedule. That the tree ends with the newest writes rests on it.
+/// A drain is part of a schedule. So the tree ends with the latest versions.
 pub fn drain_goes_on()
     ensures { DrainGoesOn }
 {}
 
-/// Sessions that are alike drain alike. That both send the same stores again rests on it.
+/// Sessions that are alike drain alike. So both send the same stores again.
 pub fn drains_alike()
     ensures { DrainsAlike }
 {}
 
-/// A drain leaves nothing under way or outstanding. That the final array is there rests on it.
+/// A drain leaves nothing under way or outstanding. So the final array exists.
 pub fn drain_ends()
     ensures { DrainEnds }
 {}

@@ -1,5 +1,5 @@
-//! Laws of schedules: the moves of requests and answers that are allowed, what the server holds after them, and the steps of scripts.
-//! There is no code but the laws: functions with empty bodies whose contract is the law.
+//! Laws of schedules: the allowed moves of requests and answers, what the server holds after them, and the steps of scripts.
+//! The only code is laws: functions with empty bodies, whose contract is the law.
 #![tactic(auto)]
 
 mod drains;

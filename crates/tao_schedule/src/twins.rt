@@ -1,7 +1,7 @@
-//! Laws: a second play of a schedule, with other operations.
+//! Laws: a second play of a schedule with other operations.
 ghost use Rattle.tao_schedule.specs.Twins.{TwinLeaves, RetoldIsTwin, TwinIsAlike, TwinMeetsNoFault, TwinScriptIsAllowed, TwinsLookAlike};
 
-/// The second play fetches the leaves of the first. That both look the same rests on it.
+/// The second play fetches the same leaves as the first. So both look the same.
 pub fn twin_leaves()
     ensures { TwinLeaves }
 {}
@@ -11,7 +11,7 @@ pub fn retold_is_twin()
     ensures { RetoldIsTwin }
 {}
 
-/// The second play is alike to the first as far as it came.
+/// The second play is alike to the first as far as it has come.
 pub fn twin_is_alike()
     ensures { TwinIsAlike }
 {}
@@ -26,7 +26,7 @@ pub fn twins_look_alike()
     ensures { TwinsLookAlike }
 {}
 
-/// No step of the script told again breaks.
+/// Every step of the replayed script is allowed.
 pub fn twin_script_is_allowed()
     ensures { TwinScriptIsAllowed }
 {}

@@ -1,7 +1,7 @@
 //! A worked schedule.
 ghost use Rattle.tao_schedule.specs.Worked.{IsWorked, WorkedSchedule};
 
-/// Two write-backs acknowledged the later first: which steps may stand on the way, and what the server has.
+/// Two write-backs, the later acknowledged first: which steps are allowed on the way, and what the server has.
 pub fn worked_steps()
     ensures { IsWorked }
 {}

@@ -1,7 +1,7 @@
 //! Laws of what was written, of Dones and of places.
 ghost use Rattle.tao_schedule.specs.Written.{WrittenStays, IssueIsWritten, IssuedIsWritten, DonesWithin, PlacesMove};
 
-/// What was written stays.
+/// What was written doesn't change.
 pub fn written_stays()
     ensures { WrittenStays }
 {}
@@ -11,7 +11,7 @@ pub fn issue_is_written()
     ensures { IssueIsWritten }
 {}
 
-/// A version's nodes are those written under it.
+/// A version has exactly the nodes written under it.
 pub fn issued_is_written()
     ensures { IssuedIsWritten }
 {}
@@ -21,7 +21,7 @@ pub fn dones_within()
     ensures { DonesWithin }
 {}
 
-/// The permutation can be made place by place.
+/// The permutation can be computed place by place.
 pub fn places_move()
     ensures { PlacesMove }
 {}

@@ -1,4 +1,4 @@
--- The requests from the number on are as they were; settled from there on they are what is wanted.
+-- The requests from `number` on are unchanged, and settling the rest gives the result wanted.
 use Rattle.std.proofs.Common.{◌≡◌, ◌≤◌, ◌-◌, true, length, drop}
 use Rattle.tao_requests.specs.State.{block_of}
 use Rattle.tao_requests.specs.Queues.{is_on_at, LeavesOthers}
