@@ -1,6 +1,7 @@
 //! Refused words, sources and sinks that fail, and streams that give or take little at a time.
 ghost use Rattle.std.specs.Prelude.{None};
 ghost use Rattle.tao_base.specs.Memory.{no_half};
+ghost use Rattle.taostore.specs.Endings.{IsLawfullyPlayed};
 
 use crate::play::finish_played;
 use crate::tests::{ONE_READ, played, reads, sink_of, source_of};
@@ -192,19 +193,27 @@ fn text_before_its_end(rt: HostRuntime) -> Result<(), Fail> {
 fn little_memory(rt: HostRuntime) -> Result<(), Fail> {
     let alloc = rt.alloc();
     for (capacity, status, text) in [(99, 8, "end 8\n"), (3, 5, "end")] {
-        let part = match record_of(alloc)? {
-            Some(session) => Played::Part(session),
-            None => Played::Nothing,
+        let Some(session) = record_of(alloc)? else {
+            panic!(rt; "no record");
         };
-        for (played, keeps) in [(part, true), (Played::Nothing, false)] {
-            let mut sink = sink_of(alloc, capacity, &[])?;
-            let mut kept = Kept { history: None };
-            let answer = finish_played(alloc, played, &mut sink, &mut kept);
-            let left = (answer, kept.history.is_some(), sink.bytes());
-            assert_eq!(rt; left, (status, keeps, text.as_bytes()), "at {capacity}");
-        }
+        let (answer, kept, sink) = ended(alloc, Played::Part(session), capacity)?;
+        let part = (answer, kept, sink.bytes());
+        assert_eq!(rt; part, (status, true, text.as_bytes()), "at {capacity}");
+        let (answer, kept, sink) = ended(alloc, Played::Nothing, capacity)?;
+        let none = (answer, kept, sink.bytes());
+        assert_eq!(rt; none, (status, false, text.as_bytes()), "at {capacity}");
     }
     Ok(())
+}
+
+// What playing came to, with a sink of this capacity: the status, whether a record is kept, and the sink.
+fn ended(alloc: Global, played: Played, capacity: usize) -> Result<(u8, bool, ByteSink), NoMemory>
+    requires { IsLawfullyPlayed played }
+{
+    let mut sink = sink_of(alloc, capacity, &[])?;
+    let mut kept = Kept { history: None };
+    let status = finish_played(alloc, played, &mut sink, &mut kept);
+    Ok((status, kept.history.is_some(), sink))
 }
 
 // The record of a session of one read.
