@@ -6,7 +6,8 @@ use Rattle.std.proofs.Math.Seq.{take-add, take-append-add}
 use Rattle.std.specs.Io.KnownBytes.{Appends, Consumes}
 use Rattle.std.proofs.KnownBytes.{Appends-trans, Consumes-trans}
 use borrow.Rule.Slice.PartMut.{put_mid, post_of}
-use Rattle.tao_base.specs.Transfers.{PutsAll, same}
+use Rattle.tao_base.specs.Causes.{Rose}
+use Rattle.tao_base.specs.Transfers.{PutsAll, PutsPart, same}
 
 -- a write of some of the bytes behind `at` makes the prefix that was put longer
 pub put_more : {K : Type 0} (put : K → Option (List ℕ)) (faults : K → ℕ) (a b c : K) (at n : ℕ) (bytes : List ℕ) → PutsAll put faults a b (take at bytes)
@@ -20,6 +21,33 @@ put_more put faults a b c at n bytes front within more kept =
       whole = subst (Appends (put a) (put c)) joined (Appends-trans _ _ _ _ _ front.whole more);
       unfailed = kept ∙ front.unfailed;
     }
+
+module _ {K : Type 0} (put : K → Option (List ℕ)) (faults : K → ℕ) where
+  -- one text and then another
+  pub puts_then : (a b c : K) (x y : List ℕ) → PutsAll put faults a b x → PutsAll put faults b c y → PutsAll put faults a c (x ++ y)
+  puts_then a b c x y one two = record { whole = Appends-trans _ _ _ _ _ one.whole two.whole; unfailed = two.unfailed ∙ one.unfailed }
+
+  -- a part of the first text
+  pub part_of_more : (a b : K) (x y : List ℕ) → PutsPart put faults a b x → PutsPart put faults a b (x ++ y)
+  part_of_more a b x y p =
+      let short = p.short in
+      record {
+        part = p.part;
+        short = omega (arith, length-append x y);
+        front = subst (Appends (put a) (put b)) (sym (take-append-le p.part x y (omega arith))) p.front;
+        rose = p.rose;
+      }
+
+  -- the first text, and a part of the second
+  pub part_then : (a b c : K) (x y : List ℕ) → PutsAll put faults a b x → PutsPart put faults b c y → PutsPart put faults a c (x ++ y)
+  part_then a b c x y one p =
+      let short = p.short in
+      record {
+        part = length x + p.part;
+        short = omega (arith, length-append x y);
+        front = subst (Appends (put a) (put c)) (sym (take-append-add x y p.part)) (Appends-trans _ _ _ _ _ one.whole p.front);
+        rose = subst (λ before. Rose before (faults c)) one.unfailed p.rose;
+      }
 
 -- a read of some bytes behind `at` makes the prefix of the room that came longer
 pub fill_more : (a b c : Option (List ℕ)) (at n k : ℕ) (room part : List ℕ) → at ≤ length room → n ≤ length part → Consumes a b (take at room) → Consumes b c (take n part)

@@ -1,5 +1,5 @@
 -- Bytes without a fault encode the bucket that is read, and what is encoded has no fault and is read again.
-use Rattle.std.proofs.Common.{◌≡◌, ℕ, ◌+◌, ◌-◌, ◌*◌, ◌^◌, ◌<◌, ◌≤◌, ◌⊎◌, inl, inr, Bool, true, false, not, ◌&&◌, eqb, if◌then◌else◌, List, [], ◌∷◌, ◌++◌, length, get_or, take, drop, replicate, Option, Some, None, Result, Ok, Err, ◌↔◌, refl, sym, ap, ap₂, subst, ◌∙◌, append_assoc, arith}
+use Rattle.std.proofs.Common.{◌≡◌, ℕ, ◌+◌, ◌-◌, ◌*◌, ◌^◌, ◌<◌, ◌≤◌, ◌⊎◌, inl, inr, Bool, true, false, not, ◌&&◌, eqb, if◌then◌else◌, List, ◌++◌, length, get_or, take, drop, replicate, Option, Some, None, Result, Ok, Err, ◌↔◌, refl, sym, ap, ap₂, subst, ◌∙◌, append_assoc, arith}
 use Rattle.std.specs.List.{All, flat_map}
 use Rattle.std.specs.Prelude.{IsSomeAnd, OnOk}
 use Rattle.std.specs.Option.{option_or}
@@ -22,25 +22,14 @@ use Rattle.tao_tag.proofs.Tagging.{length_hmac}
 use Rattle.tao_tape.specs.Keystream.{xored}
 use Rattle.tao_tape.proofs.Streams.{length_xored, xored_again, xored_fits}
 use Rattle.tao_bucket.specs.Encoding.{HasBlock, AreInForm, IsInForm, IsWritten, Encodes, header, slot_of, slots_of, body, tail, encoded, tag_of, format_of}
-use Rattle.tao_bucket.specs.Reading.{same, header_version, header_nonce, header_fault, tail_fault, slots_fault, clear_slots, bucket_fault, read_bucket, entries_of}
+use Rattle.tao_base.specs.Transfers.{same}
+use Rattle.tao_base.proofs.TransferLemmas.{same_true, same_self}
+use Rattle.tao_bucket.specs.Reading.{header_version, header_nonce, header_fault, tail_fault, slots_fault, clear_slots, bucket_fault, read_bucket, entries_of}
 use Rattle.tao_bucket.specs.Rooms.{RoomState, holding}
 use Rattle.tao_bucket.proofs.Again.{slots_again}
 use Rattle.tao_bucket.proofs.Clear.{header_taken, node_below, version_below, nonce_below, node_again, version_again, nonce_again}
 use Rattle.tao_bucket.proofs.Pieces.{zeros, length_slots, take_parts}
 use Rattle.tao_bucket.proofs.Taken.{IsBytes, bytes_take, bytes_drop, slots_taken}
-
--- ---- the same bytes
-
-pub same_true : (xs ys : List ℕ) → same xs ys ≡ true → xs ≡ ys
-same_true [] [] e = refl
-same_true [] (y ∷ ys) e = absurd cc
-same_true (x ∷ xs) [] e = absurd cc
-same_true (x ∷ xs) (y ∷ ys) e =
-    let both = and_parts (eqb x y) (same xs ys) e in ap₂ (λ a as'. a ∷ as') (eqb-true x y both.0) (same_true xs ys both.1)
-
-pub same_refl : (xs : List ℕ) → same xs xs ≡ true
-same_refl [] = refl
-same_refl (x ∷ xs) = and_from (eqb x x) (same xs xs) (eq-eqb x x refl) (same_refl xs)
 
 -- ---- none of several faults
 
@@ -188,7 +177,7 @@ encoding_again key s format bucket bytes small is =
     cond-true _ None (Some Tag)
     (ap₂ same (ap (drop (slots_len s.z s.b)) is.written ∙ drop_at front end (slots_len s.z s.b) front_len)
     (ap (tail key s.form format) (ap (take (slots_len s.z s.b)) is.written ∙ take_at front end (slots_len s.z s.b) front_len))
-    ∙ same_refl end)
+    ∙ same_self end)
     in
     let slots_none : slots_fault s.n s.z s.b (xored key (header_nonce bytes) (take (s.z * (4 + s.b)) (drop 20 bytes))) ≡ None = ap (slots_fault s.n s.z s.b) clear ∙ again.0 in
     let entries : entries_of s.z s.b (xored key (header_nonce bytes) (take (s.z * (4 + s.b)) (drop 20 bytes))) ≡ bucket.entries = ap (entries_of s.z s.b) clear ∙ again.1 in

@@ -1,10 +1,11 @@
 -- What bytes say of a bucket, and the first fault of those that are no bucket's encoding.
-use Rattle.std.specs.Prelude.{◌==◌, ℕ, zero, suc, ◌+◌, ◌-◌, ◌*◌, Bool, true, false, not, ◌&&◌, nat_lt, List, [], ◌∷◌, length, take, drop, slice_index, Option, Some, None, if◌then◌else◌}
+use Rattle.std.specs.Prelude.{◌==◌, ℕ, zero, suc, ◌+◌, ◌-◌, ◌*◌, Bool, true, not, ◌&&◌, nat_lt, List, [], ◌∷◌, length, take, drop, slice_index, Option, Some, None, if◌then◌else◌}
 use Rattle.std.specs.List.{filter_map, list_all, range_with_len}
 use Rattle.std.specs.Option.{option_or}
 use Rattle.std.specs.Int.{w32, w64, from_be_bytes}
 use Rattle.tao_base.specs.Limits.{Shape, slots_len, bucket_len}
 use Rattle.tao_base.specs.Links.{header_node}
+use Rattle.tao_base.specs.Transfers.{same}
 use Rattle.tao_base.specs.declared.storage.BucketFault.{BucketFault}
 use Rattle.tao_base.specs.declared.storage.Bucket.{Bucket}
 use Rattle.tao_base.specs.declared.storage.Entry.{Entry}
@@ -19,13 +20,6 @@ header_version bytes = from_be_bytes w32 (take 4 (drop 8 bytes))
 -- the nonce in a bucket's header
 abbrev pub header_nonce : List ℕ → ℕ
 header_nonce bytes = from_be_bytes w64 (take 8 (drop 12 bytes))
-
--- the same bytes
-abbrev pub same : List ℕ → List ℕ → Bool
-same [] [] = true
-same [] (y ∷ ys) = false
-same (x ∷ xs) [] = false
-same (x ∷ xs) (y ∷ ys) = x == y && same xs ys
 
 -- the first fault before the slots: of the length, and of the header
 abbrev pub header_fault : Shape → ℕ → ℕ → List ℕ → Option BucketFault

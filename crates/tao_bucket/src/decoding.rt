@@ -12,8 +12,8 @@ use crate::room::Room;
 use crate::tail::check_tail;
 use tao_base::{BucketFault, Params};
 
-/// Puts the bucket of node `want` that these bytes encode into the room, or tells the first fault and leaves the room empty. Any
-/// version and any nonce is taken.
+/// Puts the bucket of node `want` that these bytes encode into the room, or answers the first fault and leaves the room empty. Any
+/// version and any nonce is accepted.
 pub fn decode(
     p: &Params,
     key: &[u8; 32],

@@ -1,4 +1,4 @@
-//! A room for one bucket. All memory is taken when the room is made.
+//! A preallocated room for one bucket. Only `new` has an answer for out of memory.
 ghost use Rattle.std.specs.Prelude.{◌≡◌, ◌+◌, ◌*◌, ◌<◌, ◌≤◌, [], ◌++◌, length, map, vec_len, vec_capacity, All, IfOk, OnOk, OnErr, Some, true, is_some};
 ghost use Rattle.std.specs.Option.{option_copied};
 ghost use Rattle.std.specs.Result.{result_err};
@@ -78,7 +78,7 @@ impl Room {
         }
     }
 
-    /// Gives the bucket that the room holds for one of stock, whose blocks it keeps. It takes no memory.
+    /// Exchanges the bucket that the room holds for one of stock.
     pub fn exchange(&mut self, stock: &mut Bucket)
         requires full { is_some self.old.held ≡ true }
         requires stock { IsStock self.old.z self.old.b stock.old.entries }
@@ -97,7 +97,7 @@ impl Room {
         self.is_full = false;
     }
 
-    /// Checks the slots of these bytes, and takes the bucket in where they have no fault.
+    /// Checks the slots of these bytes, and keeps their bucket where they have no fault.
     pub(crate) fn take_in(
         &mut self,
         p: &Params,

@@ -32,7 +32,7 @@ pub fn stocked(alloc: Global, p: &Params) -> Result<Bucket, NoMemory>
     let b = p.b() as usize;
     for _ in 0..z {
         let value = Block::from_vec(vec![in alloc; 0; b]?);
-        push_within(&mut entries, Entry { id: 0, value });
+        entries.push_reserved(Entry { id: 0, value });
     }
     Ok(Bucket {
         node: 0,
@@ -104,13 +104,10 @@ fn put_slot(p: &Params, slot: &[u8], entries: &mut Entries, spare: &mut Vec<Bloc
         return;
     }
     let value = block_of(&slot[4..], spare);
-    push_within(
-        entries,
-        Entry {
-            id: field - 1,
-            value,
-        },
-    );
+    entries.push_reserved(Entry {
+        id: field - 1,
+        value,
+    });
 }
 
 // A block with these bytes, of those to spare.
@@ -128,15 +125,5 @@ fn block_of(bytes: &[u8], spare: &mut Vec<Block>) -> Block
             block
         }
         None => unreachable!(),
-    }
-}
-
-fn push_within(entries: &mut Entries, entry: Entry)
-    requires { length entries.old < 8 }
-    ensures { entries.new ≡ entries.old ++ entry ∷ [] }
-{
-    match entries.push(entry) {
-        Ok(()) => {}
-        Err(_) => unreachable!(),
     }
 }

@@ -3,9 +3,10 @@ ghost use Rattle.std.specs.Prelude.{◌≡◌, ◌≤◌, length, take, drop};
 ghost use Rattle.std.specs.Result.{result_err};
 ghost use Rattle.tao_base.specs.Limits.{slots_len, bucket_len, tag_len};
 ghost use Rattle.tao_bucket.specs.Encoding.{tail, IsWritten};
-ghost use Rattle.tao_bucket.specs.Reading.{tail_fault, same};
+ghost use Rattle.tao_base.specs.Transfers.{same};
+ghost use Rattle.tao_bucket.specs.Reading.{tail_fault};
 
-use tao_base::{BucketFault, Form, Params};
+use tao_base::{BucketFault, Form, Params, are_same};
 use tao_tag::{hmac, tag_key};
 
 /// The bytes of a bucket before its tail.
@@ -16,7 +17,7 @@ pub(crate) fn body_len(p: &Params) -> usize
     20 + p.z() as usize * (4 + p.b() as usize)
 }
 
-/// What stands behind the slots of a bucket: its tag, or the place of one; nothing in a store without tags.
+/// What stands behind the slots of a bucket: its tag, or the place of one; nothing in an untagged store.
 pub fn tail_of<'a>(p: &Params, bytes: &'a [u8]) -> &'a [u8]
     requires { length bytes.now ≡ bucket_len p.now }
     ensures { result.now ≡ drop (slots_len p.now.z p.now.b) bytes.now }
@@ -77,10 +78,4 @@ fn is_tail(p: &Params, key: &[u8; 32], format: u8, body: &[u8], found: &[u8]) ->
             }
         }
     }
-}
-
-fn are_same(left: &[u8], right: &[u8]) -> bool
-    ensures { result ≡ same left.now right.now }
-{
-    left == right
 }
