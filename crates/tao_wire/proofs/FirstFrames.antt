@@ -3,7 +3,7 @@ use Rattle.std.proofs.Common.{◌≡◌, ℕ, ◌+◌, ◌-◌, List, take, drop
 use Rattle.tao_wire.specs.declared.message.Message.{Message}
 use Rattle.tao_wire.specs.declared.message.WireFault.{WireFault}
 use Rattle.tao_wire.specs.declared.message.WireFault.TheVariants.{Long, Kind, Body, Memory}
-use Rattle.tao_wire.specs.Frames.{length_field, first_content, IsWhole}
+use Rattle.tao_wire.specs.Frames.{length_field, first_content, HasWholeFrame}
 use Rattle.tao_wire.specs.Reading.{Says, Length, Reads}
 use Rattle.tao_wire.proofs.BodyLemmas.{AreBytes}
 use Rattle.tao_wire.proofs.Frontier.{frame_back}
@@ -12,7 +12,7 @@ use Rattle.tao_wire.proofs.Frontier.{frame_back}
 content_cut : (limit len : ℕ) (bytes : List ℕ) → len ≡ length_field bytes → take (4 + len - 4) (drop 4 bytes) ≡ first_content bytes
 content_cut limit len bytes e = let n : 4 + len - 4 ≡ length_field bytes = omega arith in ap (λ k. take k (drop 4 bytes)) n
 
-reads_content : (limit : ℕ) (bytes : List ℕ) (answer : Result Message WireFault) → AreBytes bytes → IsWhole limit bytes → Says (first_content bytes) answer
+reads_content : (limit : ℕ) (bytes : List ℕ) (answer : Result Message WireFault) → AreBytes bytes → HasWholeFrame limit bytes → Says (first_content bytes) answer
     → Reads limit bytes (elim answer as (λ _. Result (Option (Message × ℕ)) WireFault) [ Ok m ↦ Ok (Some (m, 4 + length_field bytes)) | Err fault ↦ Err fault ])
 reads_content limit bytes (Ok m) small w h = (frame_back limit bytes m small w h, w.whole)
 reads_content limit bytes (Err Long) small w h = absurd h

@@ -6,7 +6,7 @@ use Rattle.std.proofs.lemmas.Nat.{from_be_bytes-to_be_bytes_4}
 use Rattle.tao_wire.specs.declared.message.Message.{Message}
 use Rattle.tao_wire.specs.declared.message.WireFault.{WireFault}
 use Rattle.tao_wire.specs.declared.message.WireFault.TheVariants.{Long, Kind, Body, Memory}
-use Rattle.tao_wire.specs.Frames.{content, length_field, first_content, BeginsWith, IsPartial, IsWhole, IsKind, BeginsFaulty}
+use Rattle.tao_wire.specs.Frames.{content, length_field, first_content, BeginsWith, IsPartial, HasWholeFrame, IsKind, BeginsFaulty}
 use Rattle.tao_wire.specs.Reading.{IsContent}
 use Rattle.tao_wire.proofs.BodyLemmas.{AreBytes, joined_4}
 use Rattle.tao_wire.proofs.ContentLemmas.{content_some, content_kind, same_content}
@@ -20,7 +20,7 @@ field_of limit bytes rest m small b =
 pub length_of : (limit : ℕ) (bytes rest : List ℕ) (m : Message) → BeginsWith limit bytes m rest → length bytes ≡ 4 + length (content m) + length rest
 length_of limit bytes rest m b = ap length b.first ∙ omega (arith, length-append (content m) rest)
 
-pub whole_of : (limit : ℕ) (bytes rest : List ℕ) (m : Message) → limit < 2 ^ 32 → BeginsWith limit bytes m rest → IsWhole limit bytes
+pub whole_of : (limit : ℕ) (bytes rest : List ℕ) (m : Message) → limit < 2 ^ 32 → BeginsWith limit bytes m rest → HasWholeFrame limit bytes
 whole_of limit bytes rest m small b =
     let field = field_of limit bytes rest m small b in
     let len = length_of limit bytes rest m b in
@@ -92,7 +92,7 @@ one_fault limit bytes Body Memory h k = absurd k
 one_fault limit bytes Memory g h k = absurd h
 
 -- a whole frame that says a message is that message's
-pub frame_back : (limit : ℕ) (bytes : List ℕ) (m : Message) → AreBytes bytes → IsWhole limit bytes → IsContent (first_content bytes) m
+pub frame_back : (limit : ℕ) (bytes : List ℕ) (m : Message) → AreBytes bytes → HasWholeFrame limit bytes → IsContent (first_content bytes) m
     → BeginsWith limit bytes m (drop (4 + length_field bytes) bytes)
 frame_back limit bytes m small w is =
     let behind = length-drop 4 bytes in

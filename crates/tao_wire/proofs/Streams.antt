@@ -8,7 +8,7 @@ use Rattle.std.proofs.lemmas.Grind.{flat_map-append}
 use Rattle.tao_wire.specs.declared.message.Message.{Message}
 use Rattle.tao_wire.specs.declared.message.WireFault.{WireFault}
 use Rattle.tao_wire.specs.declared.message.WireFault.TheVariants.{Long, Kind, Body, Memory}
-use Rattle.tao_wire.specs.Frames.{frame, length_field, first_content, Fits, BeginsWith, HasLength, IsWhole, IsKind, IsNoContent, BeginsFaulty, Ends, Splits, FrameStream}
+use Rattle.tao_wire.specs.Frames.{frame, length_field, first_content, Fits, BeginsWith, HasLength, HasWholeFrame, IsKind, IsNoContent, BeginsFaulty, Ends, Splits, FrameStream}
 use Rattle.tao_wire.specs.Runs.{Turn, Fed, Asked, fed, handed, Run, AllFail}
 use Rattle.tao_wire.proofs.AnswerLemmas.{fault_and_left}
 use Rattle.tao_wire.proofs.Frontier.{one_message, no_message_partial, no_message_faulty, no_fault_partial, one_fault}
@@ -73,13 +73,13 @@ length_later limit bytes more h =
     let longer = length-append bytes more in
     record { come = omega (arith, h.come); some = omega (arith, h.some); allowed = omega (arith, h.allowed) }
 
-whole_later : (limit : ℕ) (bytes more : List ℕ) → IsWhole limit bytes → IsWhole limit (bytes ++ more)
+whole_later : (limit : ℕ) (bytes more : List ℕ) → HasWholeFrame limit bytes → HasWholeFrame limit (bytes ++ more)
 whole_later limit bytes more h =
     let same = field_later bytes more h.length_good.come in
     let longer = length-append bytes more in
     record { length_good = length_later limit bytes more h.length_good; whole = omega (arith, h.whole) }
 
-content_later : (limit : ℕ) (bytes more : List ℕ) → IsWhole limit bytes → first_content (bytes ++ more) ≡ first_content bytes
+content_later : (limit : ℕ) (bytes more : List ℕ) → HasWholeFrame limit bytes → first_content (bytes ++ more) ≡ first_content bytes
 content_later limit bytes more h =
     let come = h.length_good.come in
     let whole = h.whole in

@@ -9,7 +9,7 @@ use Rattle.tao_wire.specs.declared.message.Message.{Message}
 use Rattle.tao_wire.specs.declared.message.Message.TheVariants.{Fetch, Stored, Get, Refused}
 use Rattle.tao_wire.specs.declared.message.WireFault.{WireFault}
 use Rattle.tao_wire.specs.declared.message.WireFault.TheVariants.{Long, Kind, Body}
-use Rattle.tao_wire.specs.Frames.{content, frame, length_field, first_content, Fits, BeginsWith, BeginsWithSome, HasLength, IsWhole, IsKind, IsNoContent, Ends, FrameStream}
+use Rattle.tao_wire.specs.Frames.{content, frame, length_field, first_content, Fits, BeginsWith, BeginsWithSome, HasLength, HasWholeFrame, IsKind, IsNoContent, Ends, FrameStream}
 use Rattle.tao_wire.specs.Reading.{IsSomeContent}
 use Rattle.tao_wire.proofs.BodyLemmas.{AreBytes, small_take, joined_4, joined_8, no_fetch, no_path, no_store, no_stored, no_get, no_put, no_refused, some_path, some_store, some_put, some_value}
 use Rattle.tao_wire.proofs.Frontier.{length_of, rest_of, frame_back}
@@ -128,7 +128,7 @@ content_decided (kind ∷ body) some small is = kind_decided kind body (λ i. sm
 abbrev Next : ℕ → List ℕ → Type 0
 Next limit bytes = BeginsWithSome limit bytes ⊎ ((fault : Option WireFault) × Ends limit bytes fault)
 
-next_whole : (limit : ℕ) (bytes : List ℕ) → AreBytes bytes → IsWhole limit bytes → Next limit bytes
+next_whole : (limit : ℕ) (bytes : List ℕ) → AreBytes bytes → HasWholeFrame limit bytes → Next limit bytes
 next_whole limit bytes small w =
     let f = length_field bytes in
     let behind = length-drop 4 bytes in

@@ -66,7 +66,7 @@ abbrev pub IsPartial : ℕ → List ℕ → Type 0
 IsPartial limit bytes = (length bytes < 4) ⊎ (HasLength limit bytes × (length bytes < 4 + length_field bytes))
 
 -- a whole frame has come, whatever it says
-pub record IsWhole (limit : ℕ) (bytes : List ℕ) : Type 0 where
+pub record HasWholeFrame (limit : ℕ) (bytes : List ℕ) : Type 0 where
   pub length_good : HasLength limit bytes
   pub whole : 4 + length_field bytes ≤ length bytes
 
@@ -82,10 +82,10 @@ IsNoContent bytes = (message : Message) → content message ≡ bytes → ⊥
 -- is whole.
 abbrev pub BeginsFaulty : ℕ → List ℕ → WireFault → Type 0
 BeginsFaulty limit bytes Long = (4 ≤ length bytes) × (limit < length_field bytes)
-BeginsFaulty limit bytes Kind = IsWhole limit bytes × (IsKind (slice_index (first_content bytes) 0) → ⊥)
+BeginsFaulty limit bytes Kind = HasWholeFrame limit bytes × (IsKind (slice_index (first_content bytes) 0) → ⊥)
 BeginsFaulty limit bytes Body =
     ((4 ≤ length bytes) × (length_field bytes ≡ 0))
-    ⊎ (IsWhole limit bytes × IsKind (slice_index (first_content bytes) 0) × IsNoContent (first_content bytes))
+    ⊎ (HasWholeFrame limit bytes × IsKind (slice_index (first_content bytes) 0) × IsNoContent (first_content bytes))
 BeginsFaulty limit bytes Memory = ⊥
 
 -- no message is next: less than a frame has come, or a faulty one

@@ -34,7 +34,7 @@ SplitsHanded = (limit : ℕ) (stream left rest : List ℕ) (front : List Message
 abbrev pub FaultyLater : Type 0
 FaultyLater = (limit : ℕ) (bytes more : List ℕ) (fault : WireFault) → BeginsFaulty limit bytes fault → BeginsFaulty limit (bytes ++ more) fault
 
--- however a stream was cut into pieces, and whenever the decoder was asked, what it has handed out are the first messages of the stream
+-- however a stream is chunked, and whenever the decoder is asked, what it has handed out are the first messages of the stream
 abbrev pub AnyCutting : Type 0
 AnyCutting = (limit : ℕ) (turns : List Turn) (left rest : List ℕ) (messages : List Message) (fault : Option WireFault) → limit < 2 ^ 32
     → Run limit [] turns left → FrameStream limit (fed turns) messages rest fault → (more : List Message) × (messages ≡ handed turns ++ more)

@@ -1,6 +1,6 @@
 -- What the parts of the decoder answer.
 use Rattle.std.specs.Prelude.{◌≡◌, ℕ, ◌≤◌, List, length, drop, slice_index, Option, Some, None, Result, Ok, Err}
-use Rattle.tao_wire.specs.Frames.{content, IsInRange, IsKind, IsNoContent, IsPartial, IsWhole, BeginsWith, BeginsWithSome, BeginsFaulty, length_field}
+use Rattle.tao_wire.specs.Frames.{content, IsInRange, IsKind, IsNoContent, IsPartial, HasWholeFrame, BeginsWith, BeginsWithSome, BeginsFaulty, length_field}
 use Rattle.tao_wire.specs.declared.message.Message.{Message}
 use Rattle.tao_wire.specs.declared.message.WireFault.{WireFault}
 use Rattle.tao_wire.specs.declared.message.WireFault.TheVariants.{Long, Kind, Body, Memory}
@@ -23,7 +23,7 @@ Says bytes (Err Memory) = IsSomeContent bytes
 
 -- the length field, where the frame has come whole
 abbrev pub Length : ℕ → List ℕ → Result (Option ℕ) WireFault → Type 0
-Length limit bytes (Ok (Some len)) = IsWhole limit bytes × (len ≡ length_field bytes)
+Length limit bytes (Ok (Some len)) = HasWholeFrame limit bytes × (len ≡ length_field bytes)
 Length limit bytes (Ok None) = IsPartial limit bytes
 Length limit bytes (Err Long) = BeginsFaulty limit bytes Long
 Length limit bytes (Err Kind) = ⊥

@@ -10,7 +10,7 @@ pub record DecoderState : Type 0 where
   pub limit : ℕ
   pub left : List ℕ
 
--- what may be answered where these bytes are left, and what is left then: want of memory only where a message is next
+-- what may be answered where these bytes are left, and what is left then; out of memory only where a message is next
 abbrev pub Answers : ℕ → List ℕ → Result (Option Message) WireFault → List ℕ → Type 0
 Answers limit left (Ok (Some message)) new = BeginsWith limit left message new
 Answers limit left (Ok None) new = IsPartial limit left × (new ≡ left)

@@ -1,4 +1,4 @@
-//! Frames that are read from a stream that comes in pieces.
+//! Frames that are read from a stream, however it is chunked.
 ghost use Rattle.std.specs.Prelude.{◌≡◌, ◌⊎◌, ℕ, ◌^◌, ◌≤◌, List, [], ◌++◌, IfOk, OnOk, OnErr};
 ghost use Rattle.tao_wire.specs.Reading.{Reads, Length};
 
@@ -9,10 +9,10 @@ use std::alloc::Global;
 use std::marker::Model;
 use tao_base::NoMemory;
 
-// Bytes that there is room for before the first piece comes.
+// The bytes that are preallocated.
 const FIRST_ROOM: usize = 256;
 
-/// Takes a stream in any pieces, and hands out the messages of its frames. What it keeps grows with the bytes that came, whatever a
+/// Takes a stream in any pieces, and hands out the messages of its frames. Its memory grows with the bytes that came, not with what a
 /// length field promises.
 #[derive(Debug, Drop)]
 pub struct Decoder {
@@ -61,14 +61,14 @@ impl Decoder {
     }
 
     #[tactic(auto, using(crate::proofs::AnswerLemmas::only_none, crate::proofs::AnswerLemmas::only_fault, crate::proofs::AnswerLemmas::only_message))]
-    /// Hands out the next message, or None until its frame has come whole. A faulty frame stays where it is, so its fault is answered
-    /// from then on; after `Memory` the same message is still to come.
+    /// Hands out the next message, or None until its frame has come whole. The fault of a frame is a sticky error; after `Memory` the
+    /// same message is still to come.
     pub fn next_message(&mut self) -> Result<Option<Message>, WireFault>
         ensures answer { Answers self.old.limit self.old.left result self.new.left }
         ensures limit { self.new.limit ≡ self.old.limit }
         ensures limit_high { self.new.limit ≤ 2 ^ 25 }
 
-        // Each answer comes where its cause is there. Memory may want in a message's place alone.
+        // Each answer comes where its cause is there; out of memory comes in a message's place alone.
         ensures none { IsPartial self.old.limit self.old.left → result ≡ Ok None }
         ensures fault { (fault : WireFault) → BeginsFaulty self.old.limit self.old.left fault → result ≡ Err fault }
         ensures message { (message : Message) (rest : List ℕ) → BeginsWith self.old.limit self.old.left message rest
@@ -88,6 +88,14 @@ impl Decoder {
         };
         self.buffer.advance(len);
         Ok(Some(message))
+    }
+}
+
+#[cfg(test)]
+impl Decoder {
+    /// The bytes for which the buffer has memory.
+    pub(crate) fn capacity(&self) -> usize {
+        self.buffer.capacity()
     }
 }
 

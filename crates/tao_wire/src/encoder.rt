@@ -39,7 +39,7 @@ fn put(out: &mut Image, kind: u8, first: &[u8], rest: &[u8]) -> Result<(), NoMem
     done
 }
 
-// Appends the four parts, or only a front of them where memory runs out.
+// Appends the four parts, or only a prefix of them when out of memory.
 fn append(
     out: &mut Image,
     len: &[u8],

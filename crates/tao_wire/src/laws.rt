@@ -21,7 +21,7 @@ pub fn any_cutting()
     ensures all { AllHanded }
 {}
 
-/// A fault other than `Memory` is answered from then on.
+/// Each fault but `Memory` is a sticky error.
 pub fn fault_for_ever()
     ensures { FaultForEver }
 {}

@@ -33,7 +33,7 @@ pub enum WireFault {
     Kind = 2,
     /// The length field is 0, or no message of this kind has such a body.
     Body = 3,
-    /// Memory ran out. It is the one fault that passes.
+    /// Out of memory. It is the one fault that isn't sticky.
     Memory = 4,
 }
 

@@ -1,7 +1,10 @@
 ghost use Rattle.std.specs.Prelude.{◌^◌, ◌≤◌, length};
 ghost use Rattle.tao_wire.specs.Frames.{content};
 
-use crate::{Decoder, Message, WireFault, encode};
+use crate::{
+    Decoder, Message, WireFault, encode, fetch_frame, length_bytes, path_head, store_head,
+    stored_content,
+};
 use std::alloc::Global;
 use std::process::Abort;
 use std::test::Fail;
@@ -67,7 +70,7 @@ fn read_in_two(
     Ok((out, fault))
 }
 
-// The stream in each cutting into two gives these first frames and this fault.
+// However the stream is chunked into two, it gives these first frames and this fault.
 fn check_stream<R: Abort>(
     rt: &R,
     alloc: Global,
@@ -200,5 +203,61 @@ fn faulty_frames(rt: HostRuntime) -> Result<(), Fail> {
         assert!(rt; frames <= stream.len());
         check_stream(&rt, alloc, stream, frames, fault)?;
     }
+    Ok(())
+}
+
+#[test]
+fn numbers_of_faults(rt: HostRuntime) -> Result<(), Fail> {
+    let faults = [
+        WireFault::Long as u8,
+        WireFault::Kind as u8,
+        WireFault::Body as u8,
+        WireFault::Memory as u8,
+    ];
+    assert_eq!(rt; faults.as_slice(), [1, 2, 3, 4].as_slice());
+    Ok(())
+}
+
+// a length field at the limit and one above it, behind which nothing comes: the buffer stays as it was preallocated
+#[test]
+fn promised_bytes_take_no_memory(rt: HostRuntime) -> Result<(), Fail> {
+    let alloc = rt.alloc();
+    for (field, fault) in [
+        (LIMIT, None),
+        (LIMIT + 1, Some(WireFault::Long)),
+        (u32::MAX, Some(WireFault::Long)),
+    ] {
+        let mut decoder = Decoder::new(alloc, LIMIT)?;
+        let capacity = decoder.capacity();
+        assert!(rt; capacity < 1024, "{capacity} bytes preallocated");
+        decoder.feed(&length_bytes(field))?;
+        let found = match decoder.next_message() {
+            Ok(_) => None,
+            Err(fault) => Some(fault),
+        };
+        assert_eq!(rt; found, fault, "at {field}");
+        assert_eq!(rt; decoder.capacity(), capacity, "at {field}");
+    }
+    Ok(())
+}
+
+#[test]
+fn heads_of_frames(rt: HostRuntime) -> Result<(), Fail> {
+    assert_eq!(rt;
+        fetch_frame(2, 3).as_slice(),
+        b"\0\0\0\x0d\x01\0\0\0\0\0\0\0\x02\0\0\0\x03".as_slice()
+    );
+    assert_eq!(rt;
+        store_head(3, 1).as_slice(),
+        b"\0\0\0\x06\x03\0\0\0\x03".as_slice()
+    );
+    assert_eq!(rt;
+        path_head(2).as_slice(),
+        b"\x02\0\0\0\0\0\0\0\x02".as_slice()
+    );
+    assert_eq!(rt;
+        stored_content(258).as_slice(),
+        b"\x04\0\0\x01\x02".as_slice()
+    );
     Ok(())
 }
