@@ -1,4 +1,4 @@
--- Rooms that are made beforehand, and what is copied to them.
+-- Preallocated rooms, and what is copied to them.
 use Rattle.std.specs.Prelude.{◌≡◌, ℕ, ◌+◌, ◌<◌, ◌≤◌, false, List, length, All}
 use Rattle.std.specs.List.{slice_index_or}
 use Rattle.tao_base.specs.Limits.{Shape, IsShape}
@@ -34,7 +34,7 @@ pub record AreRooms (s : Shape) (count : ℕ) (rooms : List Bucket) : Type 0 whe
   pub len : length rooms ≡ count
   pub each : All (IsRoom s) rooms
 
--- What a record has beforehand: rooms for the buckets of the Dones and Issues to come, and in the list of events, which has this length
+-- What a record has preallocated: rooms for the buckets of the Dones and Issues to come, and in the list of events, which has this length
 -- and this capacity, a place for each event to come, and for the one Fault.
 pub record HasRoom (s : Shape) (events : List Event) (len capacity : ℕ) (done_rooms issue_rooms : List (List Bucket)) (dones issues others : ℕ) : Type 0 where
   pub shape : IsShape s

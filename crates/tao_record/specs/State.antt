@@ -1,4 +1,4 @@
--- What contracts see of a record that is being made: its history, and for how much more there is room.
+-- What contracts see of a record that is being made: its history, and its capacity.
 use Rattle.std.specs.Prelude.{◌≡◌, ℕ, ◌+◌, ◌*◌, ◌≤◌, min, Bool, true, false, List, [], ◌∷◌, ◌++◌, All, length}
 use Rattle.std.specs.List.{list_any}
 use Rattle.tao_base.specs.Limits.{Shape}
@@ -8,7 +8,7 @@ use Rattle.tao_base.specs.declared.session.Event.{Event}
 use Rattle.tao_base.specs.declared.session.Event.TheVariants.{Arrive, Done, Issue, Acked, Fault}
 use Rattle.tao_base.specs.declared.storage.Bucket.{Bucket}
 
--- the history so far, and for how many more Dones, Issues and other events there is room
+-- the history so far, and for how many more Dones, Issues and other events there is capacity
 pub record RecordState : Type 0 where
   pub history : History
   pub dones : ℕ

@@ -1,4 +1,4 @@
-//! Copies into rooms that were made beforehand. They take no memory.
+//! Copies into preallocated rooms.
 ghost use Rattle.std.specs.Prelude.{◌≡◌, length, take};
 ghost use Rattle.tao_record.specs.Rooms.{Fit, EntryFits, BucketFits};
 

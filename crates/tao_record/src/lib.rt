@@ -1,4 +1,4 @@
-//! The record of a session: an append-only list of events, with room that is made beforehand.
+//! The record of a session: an append-only list of events, which is preallocated.
 #![tactic(auto)]
 
 mod copies;

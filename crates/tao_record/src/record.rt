@@ -11,8 +11,8 @@ use std::alloc::Global;
 use std::marker::Model;
 use tao_base::{Block, Blocks, Bucket, Buckets, Cause, Event, NoMemory, Numbers, Op, Params};
 
-/// What a session opened with, and its events in order. Events are added without taking memory, in room that `reserve` made; the one
-/// Fault that a session may have has its room from the start.
+/// What a session opened with, and its events in order, in the capacity that `reserve` made. The one Fault that a session may have is
+/// preallocated from the start.
 #[derive(Debug, Drop)]
 pub struct Record {
     alloc: Global,
@@ -21,7 +21,7 @@ pub struct Record {
     first: Blocks,
     loaded: Buckets,
     events: Vec<Event>,
-    // rooms for the buckets of the Dones and the Issues to come, and the number of other events to come
+    // lists for the buckets of the Dones and the Issues to come, and the number of other events to come
     dones: Vec<Buckets>,
     issues: Vec<Buckets>,
     others: usize,
@@ -50,7 +50,7 @@ impl Model for Record {
 impl Record {
     ghost use Rattle.tao_record.specs.State.{opened, added, FitDone, FitIssue, has_fault, KeepsSpare};
 
-    /// An opening and no events. There is room for one Fault and for nothing else.
+    /// An opening and no events. There is capacity for one Fault and for nothing else.
     pub fn begin(
         alloc: Global,
         p: &Params,
@@ -60,7 +60,7 @@ impl Record {
     ) -> Result<Record, NoMemory>
         ensures { IfOk result (λ r. r ≡ opened p.now words first loaded) }
     {
-        // a reader tells that the parameters are within their limits
+        // its contract says that the parameters are within their limits
         let _within = p.l();
         Ok(Record {
             alloc,
@@ -107,31 +107,28 @@ impl Record {
         self.add_other(Event::Arrive { client, op, word });
     }
 
-    /// The fetched path of this arrival was taken in. The buckets are copied into room that was made for them.
+    /// The fetched buckets of this arrival were admitted. They are copied into a preallocated list.
     pub fn add_done(&mut self, arrival: u64, taken: &[Bucket])
         requires spare { 0 < self.old.dones }
         requires buckets { FitDone self.old.history.opening.shape taken.now }
         ensures { self.new ≡ record (added self.old (Done arrival taken.now)) { dones = self.old.dones - 1 } }
     {
         let taken = take_filled(&mut self.dones, taken);
-        push_within(&mut self.events, Event::Done { arrival, taken });
+        self.events.push_reserved(Event::Done { arrival, taken });
     }
 
-    /// A write-back was issued. The buckets are copied into room that was made for them.
+    /// A write-back was issued. The buckets are copied into a preallocated list.
     pub fn add_issue(&mut self, version: u32, nonce: u64, buckets: &[Bucket])
         requires spare { 0 < self.old.issues }
         requires buckets { FitIssue self.old.history.opening.shape buckets.now }
         ensures { self.new ≡ record (added self.old (Issue version nonce buckets.now)) { issues = self.old.issues - 1 } }
     {
         let buckets = take_filled(&mut self.issues, buckets);
-        push_within(
-            &mut self.events,
-            Event::Issue {
-                version,
-                nonce,
-                buckets,
-            },
-        );
+        self.events.push_reserved(Event::Issue {
+            version,
+            nonce,
+            buckets,
+        });
     }
 
     /// The write-back of this version was acknowledged.
@@ -142,12 +139,12 @@ impl Record {
         self.add_other(Event::Acked { version });
     }
 
-    /// The session is over. There is always room for this.
+    /// The session is over. There is always capacity for this.
     pub fn add_fault(&mut self, cause: Cause)
         requires { has_fault self.old.history.events ≡ false }
         ensures { self.new ≡ added self.old (Fault cause) }
     {
-        push_within(&mut self.events, Event::Fault { cause });
+        self.events.push_reserved(Event::Fault { cause });
     }
 
     // An event that is no Done, no Issue and no Fault.
@@ -156,7 +153,7 @@ impl Record {
         ensures { self.new ≡ record (added self.old event) { others = self.old.others - 1 } }
     {
         self.others -= 1;
-        push_within(&mut self.events, event);
+        self.events.push_reserved(event);
     }
 
     /// The events, the oldest first.
@@ -204,18 +201,6 @@ fn sum_and_fault(dones: usize, issues: usize, others: usize) -> Option<usize>
         .checked_add(issues)?
         .checked_add(others)?
         .checked_add(1)
-}
-
-fn push_within(events: &mut Vec<Event>, event: Event)
-    requires { vec_len events.old < vec_capacity events.old }
-    ensures items { events.new.items ≡ events.old.items ++ event ∷ [] }
-    ensures len { vec_len events.new ≡ vec_len events.old + 1 }
-    ensures capacity { vec_capacity events.old ≤ vec_capacity events.new }
-{
-    match events.push(event) {
-        Ok(()) => {}
-        Err(_) => unreachable!(),
-    }
 }
 
 // Takes the last of the spare rooms, and copies the buckets into it.

@@ -1,4 +1,4 @@
-//! Rooms for buckets, made beforehand.
+//! Preallocated rooms for buckets.
 ghost use Rattle.std.specs.Prelude.{◌≡◌, ◌≤◌, max, vec_len, IfOk, OnOk, All};
 ghost use Rattle.tao_record.specs.Rooms.{IsRoom, AreRooms};
 
