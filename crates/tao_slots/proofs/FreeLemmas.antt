@@ -125,15 +125,6 @@ first_free slots free i d first list =
           (get_or-map (λ slot. slot.next) slots i d None within) (all.2 node),
     )
 
--- a list that isn't empty has a first slot
-pub some_first : (slots : List Slot) (free : FreeList) → free.first ≡ None → AreFree slots free → 0 < free.count → ⊥
-some_first slots free none list some =
-    none_count (nodes_of (buckets_in slots)) (nexts_in slots) free.count (subst (λ (o : Option ℕ). IsFreeList (nodes_of (buckets_in slots)) (nexts_in slots) o free.count) none list) some
-  where
-    none_count : (nodes nexts : List (Option ℕ)) (n : ℕ) → IsFreeList nodes nexts None n → 0 < n → ⊥
-    none_count nodes nexts zero a h = omega arith
-    none_count nodes nexts (suc n) a h = a
-
 -- a slot that held a node is the first free one
 pub back : (s0 s1 : List Slot) (f0 f1 : FreeList) (place node : ℕ) → node_in s0 place ≡ Some node → place < length s0 → buckets_in s1 ≡ set (buckets_in s0) place None
     → nexts_in s1 ≡ set (nexts_in s0) place f0.first → f1.first ≡ Some place → f1.count ≡ f0.count + 1 → AreFree s0 f0 → AreFree s1 f1

@@ -1,5 +1,5 @@
 -- A slot that is filled or emptied, and the index with it.
-use Rattle.std.proofs.Common.{◌≡◌, ℕ, ◌+◌, ◌*◌, ◌/◌, ◌<◌, ◌≤◌, List, Option, Some, None, length, set, get_or, refl, sym, ap, ◌∙◌, ⊎_elim, arith, ◌-◌, ◌++◌, ◌∷◌, [], zero, suc, replicate, append-nil, append_assoc}
+use Rattle.std.proofs.Common.{◌≡◌, ℕ, ◌+◌, ◌*◌, ◌/◌, ◌<◌, ◌≤◌, List, Option, Some, None, length, set, get_or, refl, sym, ap, ◌∙◌, ⊎_elim, arith, ◌-◌, ◌++◌, ◌∷◌, [], zero, suc, replicate, append_assoc}
 use Rattle.std.proofs.lemmas.Bool.{cases_eq, cases_lt}
 use Rattle.std.proofs.lemmas.List.{length-map, map-set, get_or-map, get_or_past, get_or-set_same, get_or-set_other, get_or_append_left, get_or-append_right, map-append, replicate_more}
 use Rattle.std.proofs.lemmas.Option.{none-some, same_Some}
@@ -193,9 +193,6 @@ linked_more old new next index push linked =
     none_only : (k : ℕ) → entry {X = ℕ} (None ∷ []) k ≡ None
     none_only zero = refl
     none_only (suc k) = refl
-
-pub grown_none : (slots : List Slot) → IsGrown slots slots 0
-grown_none slots = record { buckets = sym (append-nil (buckets_in slots)); linked = λ index linked. linked }
 
 pub grown_more : (s0 s1 s2 : List Slot) (next : Option ℕ) (n : ℕ) → IsGrown s0 s1 n → IsPushed s1 s2 next → IsGrown s0 s2 (n + 1)
 grown_more s0 s1 s2 next n grown push = record {

@@ -1,12 +1,12 @@
 -- How links stay right.
-use Rattle.std.proofs.Common.{◌≡◌, ℕ, ◌+◌, ◌*◌, ◌/◌, ◌<◌, List, Option, Some, None, length, set, get_or, refl, sym, ap, ◌∙◌, subst, ⊎_elim, arith}
+use Rattle.std.proofs.Common.{◌≡◌, ℕ, ◌+◌, ◌*◌, ◌/◌, ◌<◌, List, Option, Some, None, length, get_or, sym, ap, ◌∙◌, subst, ⊎_elim, arith}
 use Rattle.std.proofs.lemmas.Bool.{cases_eq, cases_lt, false≢true}
-use Rattle.std.proofs.lemmas.List.{get_or_past, length-map, get_or-map, get_or-set_same, get_or-set_other}
-use Rattle.std.proofs.lemmas.Option.{none-some, same_Some}
+use Rattle.std.proofs.lemmas.List.{get_or_past, length-map, get_or-map}
+use Rattle.std.proofs.lemmas.Option.{none-some}
 use Rattle.std.specs.Option.{option_map, ForSome, IsSome}
 use Rattle.tao_base.specs.declared.storage.Bucket.{Bucket}
-use Rattle.tao_slots.specs.Columns.{buckets_in, links_in, nexts_in, nodes_of, no_links}
-use Rattle.tao_slots.specs.Linked.{links_at, IsRight, node_in, IsIndexed, AreRight, AreRightApart, IsRelinked}
+use Rattle.tao_slots.specs.Columns.{buckets_in, nodes_of}
+use Rattle.tao_slots.specs.Linked.{IsRight, node_in, IsIndexed, AreRight, AreRightApart, IsRelinked}
 use Rattle.tao_slots.specs.SlotMap.{entry}
 use Rattle.tao_slots.specs.declared.slot.Slot.{Slot}
 
@@ -48,38 +48,6 @@ same_len old new same =
 -- what the index has are slots
 pub index_within : (old new : List Slot) (index : List (Option ℕ)) (node : ℕ) → IsIndexed old index → buckets_in new ≡ buckets_in old → ForSome (entry index node) (λ i. i < length new)
 index_within old new index node indexed same = λ i at. let len = same_len old new same in let within = node_within old i node (indexed.found node i at) in omega arith
-
--- nothing to link
-pub none_relinked : (slots : List Slot) (index : List (Option ℕ)) → IsRelinked slots slots index None
-none_relinked slots index = record { buckets = refl; nexts = refl; kept = λ i node e right. right; made = λ i node at e. absurd (none-some i at) }
-
-pub free_relinked : (slots : List Slot) (index : List (Option ℕ)) (i : ℕ) → node_in slots i ≡ None → IsRelinked slots slots index (Some i)
-free_relinked slots index i free = record {
-  buckets = refl;
-  nexts = refl;
-  kept = λ j node e right. right;
-  made = λ j node at e. absurd (none-some node (sym (ap (λ k. node_in slots k) (sym (same_Some i j at)) ∙ free) ∙ e));
-}
-
--- a slot that was given the links of its node
-pub relinked : (old new : List Slot) (index : List (Option ℕ)) (i node : ℕ) → node_in old i ≡ Some node → buckets_in new ≡ buckets_in old → nexts_in new ≡ nexts_in old
-    → links_in new ≡ set (links_in old) i (links_at index node) → IsRelinked old new index (Some i)
-relinked old new index i node here buckets nexts links =
-    let within : i < length old = node_within old i node here in
-    let len : length (links_in old) ≡ length old = length-map old (λ slot. slot.links) in
-    let at_i : (w : ℕ) → node_in old i ≡ Some w → IsRight new index i w =
-    λ w e. ap (λ all. get_or all i no_links) links ∙ get_or-set_same (links_in old) i (links_at index node) no_links (omega arith)
-    ∙ ap (links_at index) (same_Some node w (sym here ∙ e))
-    in
-    record {
-      buckets = buckets;
-      nexts = nexts;
-      kept = λ j w e right. ⊎_elim
-          (λ (same : j ≡ i). subst (λ k. node_in old k ≡ Some w → IsRight new index k w) (sym same) (at_i w) e)
-          (λ other. ap (λ all. get_or all j no_links) links ∙ get_or-set_other (links_in old) i j (links_at index node) no_links other ∙ right)
-          (cases_eq j i);
-      made = λ j w at e. let same : i ≡ j = same_Some i j at in subst (λ k. node_in old k ≡ Some w → IsRight new index k w) same (at_i w) e;
-    }
 
 -- after the slots of a node and of all its neighbours were linked, all slots are right
 pub all_right : (s0 s1 s2 s3 s4 : List Slot) (index : List (Option ℕ)) (at : ℕ) → IsIndexed s0 index → AreRightApart s0 index at

@@ -85,10 +85,6 @@ slot_of : (s : Shape) (slots : List Slot) (index : List (Option ℕ)) (free : Fr
 slot_of s slots index free parts node None e = by_node slots index node ∙ ap (bucket_of slots) e
 slot_of s slots index free parts node (Some i) e = parts.linked.indexed.found node i e
 
-pub slot_found : (s : Shape) (slots : List Slot) (index : List (Option ℕ)) (free : FreeList) → AreParts s slots index free → (node : ℕ) (o : Option ℕ) → o ≡ entry index node
-    → IsSlotOf (map_of s slots index free) o node
-slot_found s slots index free parts node o e = slot_of s slots index free parts node o (sym e)
-
 -- a slot that is read
 pub read_free : (slots : List Slot) (i : ℕ) (d : Slot) → d ≡ get_or slots i d → d.bucket ≡ None → IsSome (node_in slots i) → ⊥
 read_free slots i d read none held =

@@ -12,7 +12,7 @@ pub(crate) struct FreeList {
     pub count: usize,
 }
 
-/// Adds so many free slots, for which there is room, to the vector and to the list.
+/// Adds so many free slots, for which there is capacity, to the vector and to the list.
 pub(crate) fn grow(slots: &mut Vec<Slot>, free: &mut FreeList, count: usize)
     requires room { vec_len slots.old + count ≤ vec_capacity slots.old }
     requires few { vec_len slots.old + count < 2 ^ 32 }
@@ -39,10 +39,7 @@ fn push_free(slots: &mut Vec<Slot>, free: &mut FreeList)
     ensures count { free.new.count ≡ free.old.count + 1 }
 {
     let place = slots.len() as u32;
-    match slots.push(Slot::free(free.first)) {
-        Ok(()) => {}
-        Err(_) => unreachable!(),
-    }
+    slots.push_reserved(Slot::free(free.first));
     free.first = Some(place);
     free.count += 1;
 }

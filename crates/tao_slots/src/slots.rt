@@ -220,7 +220,7 @@ impl Slots {
         Ok(nodes)
     }
 
-    // The places before and after a loose slot, whose node is added to the list.
+    // The places before and after a slot on the list, whose node is added: 0 where it was removed.
     fn push_node(
         &self,
         nodes: &mut Vec<u32>,
@@ -229,9 +229,10 @@ impl Slots {
         let Some(slot) = self.slots.get(place as usize) else {
             return Ok((None, None));
         };
-        if let Some(bucket) = &slot.bucket {
-            nodes.push(bucket.node)?;
-        }
+        nodes.push(match &slot.bucket {
+            Some(bucket) => bucket.node,
+            None => 0,
+        })?;
         Ok((slot.before, slot.after))
     }
 }

@@ -139,6 +139,30 @@ fn relinked_slots(rt: HostRuntime) -> Result<(), Fail> {
     Ok(())
 }
 
+// three loose slots that are removed, from the middle, the front and alone
+#[test]
+fn removed_slots_are_not_loose(rt: HostRuntime) -> Result<(), Fail> {
+    let alloc = rt.alloc();
+    let mut slots = seven(alloc, 3)?;
+    put(alloc, &mut slots, 4)?;
+    put(alloc, &mut slots, 5)?;
+    put(alloc, &mut slots, 1)?;
+    assert_eq!(rt;
+        slots.loose_nodes(alloc)?.as_slice(),
+        [1, 5, 4, 4, 5, 1].as_slice()
+    );
+    assert_eq!(rt; take_out(&mut slots, 5), 5);
+    assert_eq!(rt;
+        slots.loose_nodes(alloc)?.as_slice(),
+        [1, 4, 4, 1].as_slice()
+    );
+    assert_eq!(rt; take_out(&mut slots, 1), 1);
+    assert_eq!(rt; slots.loose_nodes(alloc)?.as_slice(), [4, 4].as_slice());
+    assert_eq!(rt; take_out(&mut slots, 4), 4);
+    assert!(rt; slots.loose_nodes(alloc)?.is_empty());
+    Ok(())
+}
+
 // the one slot holds another node, and its entries go out and in
 #[test]
 fn reused_slot(rt: HostRuntime) -> Result<(), Fail> {
