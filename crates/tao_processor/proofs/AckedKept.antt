@@ -1,4 +1,4 @@
--- An acknowledgement leaves all groups.
+-- An acknowledgement keeps the invariant.
 use Rattle.std.proofs.Common.{◌≡◌, ℕ, zero, suc, ◌+◌, ◌-◌, ◌*◌, ◌<◌, ◌≤◌, Bool, true, false, not, ◌&&◌, ◌||◌, cond, List, [], ◌∷◌, ◌++◌, length, take, reverse, refl, sym, ap, ap₂, ◌∙◌, subst, arith, inl, inr, ◌⊎◌, nat_eq, nat_lt, get_or}
 use Rattle.std.specs.Prelude.{nat_le, slice_set, slice_index, if◌then◌else◌}
 use Rattle.std.specs.List.{list_any}
@@ -39,7 +39,7 @@ use Rattle.tao_processor.specs.Steps.{Forgets}
 use Rattle.tao_processor.specs.Groups.{Parts, IsProcessor, NodesAre, pools_of}
 use Rattle.tao_processor.proofs.Kept.{nodes_with}
 
--- ---- one node more leaves
+-- ---- one more node leaves
 
 abbrev has : ℕ → List ℕ → Bool
 has w nodes = list_any (λ v. nat_eq v w) nodes

@@ -1,4 +1,4 @@
--- An arrival leaves all groups.
+-- An arrival keeps the invariant.
 use Rattle.std.proofs.Common.{◌≡◌, ℕ, ◌+◌, ◌-◌, ◌^◌, ◌<◌, ◌≤◌, Bool, true, false, not, ◌&&◌, List, [], ◌∷◌, ◌++◌, length, reverse, refl, sym, ap, ap₂, ◌∙◌, subst, arith}
 use Rattle.std.specs.Prelude.{slice_index}
 use Rattle.std.proofs.lemmas.Bool.{eq-eqb, true≢false}
@@ -118,7 +118,7 @@ ready_to_arrive x client op word is ready running may = record {
     counts : AreCounts x.shape (arrived es) (dones es) (issues es) (acks es)
     counts = subst (λ (s : Shape). AreCounts s (arrived es) (dones es) (issues es) (acks es)) is.record_is.shape (counts_are_known o events is.record_is.proxy.follows)
 
--- so it is where the state that contracts see may take it
+-- this holds if the visible state allows the arrival
 pub arrive_ready : {x : Parts} {h : History} (client : ℕ) (op : Op) (word : ℕ) → IsProcessor x → x.session.history ≡ h → x.ready ≡ true → has_fault (reverse h.events) ≡ false
     → MayFollow h.opening (reverse h.events) (Arrive client op word) → IsReadyToArrive x client op word
 arrive_ready {x} {h} client op word is same ready running may = ready_to_arrive x client op word is ready

@@ -1,4 +1,4 @@
--- What a Done makes of holdings and requests.
+-- How a Done changes holdings and requests.
 use Rattle.std.proofs.Common.{◌≡◌, ℕ, ◌+◌, ◌<◌, Bool, true, false, cond, List, [], ◌∷◌, ◌++◌, reverse, Option, Some, None, All, refl, sym, ap, ap₂, ◌∙◌, subst, nat_eq}
 use Rattle.std.proofs.Math.Path.{fun_ext}
 use Rattle.std.proofs.lemmas.Bool.{true≢false, eqb-true}

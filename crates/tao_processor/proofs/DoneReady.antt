@@ -1,4 +1,4 @@
--- What a Done finds, and that it leaves all groups.
+-- What a Done finds, and that it keeps the invariant.
 use Rattle.std.proofs.Common.{◌≡◌, ℕ, ◌+◌, ◌-◌, ◌*◌, ◌^◌, ◌<◌, ◌≤◌, Bool, true, false, not, ◌&&◌, ◌||◌, cond, List, [], ◌∷◌, length, filter, reverse, All, refl, sym, ap, ◌∙◌, subst, arith}
 use Rattle.std.proofs.Math.Pow.{pow_pos}
 use Rattle.std.proofs.lemmas.Bool.{and_from}
@@ -151,7 +151,7 @@ ready_for_done x i taken is running may = record {
     short : IsRecentList o es (touched_after o es (issues es * o.shape.k))
     short = recent_is_short o events is.record_is.proxy.follows
 
--- so it is where the state that contracts see may take it
+-- this holds if the visible state allows the Done
 pub done_ready : {x : Parts} {h : History} {taken looked : List Bucket} (i : ℕ) → IsProcessor x → x.session.history ≡ h → taken ≡ looked → has_fault (reverse h.events) ≡ false
     → MayFollow h.opening (reverse h.events) (Done i looked) → IsReadyForDone x i taken
 done_ready {x} {h} {taken} {looked} i is same here running may = ready_for_done x i taken is
@@ -173,7 +173,7 @@ all_held : (r on : Bool) → on ≡ true → (r || on) ≡ true
 all_held true on h = refl
 all_held false on h = h
 
--- the path is held once it was taken in
+-- the path is held once it is admitted
 pub path_is_held : (old now : HoldingsState) (leaf : ℕ) → now.shape ≡ old.shape → is_held now ≡ with_path old.shape.l leaf (is_held old) → IsPathHeld now leaf
 path_is_held old now leaf same held w on =
     ap (λ (r : ℕ → Bool). r w) held ∙ all_held (is_held old w) (is_on_path old.shape.l leaf w) (sym (ap (λ (s : Shape). is_on_path s.l leaf w) same) ∙ on)

@@ -1,5 +1,5 @@
--- What settling and evicting make of the parts.
-use Rattle.std.proofs.Common.{◌≡◌, ℕ, true, false, List, refl, sym, ap, ap₂, ◌∙◌, slice_set}
+-- How settling and evicting change the parts.
+use Rattle.std.proofs.Common.{◌≡◌, ℕ, true, List, sym, ap, ap₂, ◌∙◌, slice_set}
 use Rattle.tao_base.specs.declared.storage.Entry.{Entry}
 use Rattle.tao_base.specs.Limits.{Shape}
 use Rattle.tao_held.specs.Steps.{found_copy, value_or_zeros, put, evict}
@@ -23,14 +23,6 @@ settled_real i leaf word block found value old new q r real on finds leaves sett
   where
     found_is : found ≡ found_by old q i leaf
     found_is = finds ∙ ap (λ b. value_or_zeros old.shape (found_copy old.shape.l leaf (contents_in old) b)) on
-
-pub settled_fake : (i leaf word : ℕ) (old : HoldingsState) (q : RequestsState) → is_for_block q i ≡ false → Settles i leaf word old old q q
-settled_fake i leaf word old q fake = record {
-  contents = ap (λ t. put_where t (contents_in old) (block_of q.requests i) (value_from i (block_of q.requests i) (found_by old q i leaf) q.requests)) (sym fake);
-  others = ap (λ t. record old { words = moved_where t old.words (block_of q.requests i) word }) (sym fake);
-  requests = ap (λ t. settled_where t q i (found_by old q i leaf)) (sym fake);
-  stays = λ j there. refl;
-}
 
 pub finished : (i leaf word : ℕ) (old mid new : HoldingsState) (q r : RequestsState) → Settles i leaf word old mid q r
     → is_held new ≡ is_held mid → contents_in new ≡ evict mid.shape leaf (leaf_by mid) (contents_in mid)

@@ -1,4 +1,4 @@
--- A write-back leaves all groups.
+-- A write-back keeps the invariant.
 use Rattle.std.proofs.Common.{◌≡◌, ℕ, ◌+◌, ◌-◌, ◌*◌, ◌^◌, ◌<◌, ◌≤◌, Bool, true, false, cond, List, [], ◌∷◌, ◌++◌, length, filter, map, reverse, All, refl, sym, ap, ◌∙◌, subst, arith, nat_eq, nat_lt, get_or}
 use Rattle.std.specs.List.{list_any, range_with_len}
 use Rattle.std.specs.List.Sorted.{IsStrictlyIncreasing}
@@ -58,7 +58,7 @@ passing p (x ∷ xs) = either (p x) refl (passing p xs)
     either true is ih = All-cons (λ y. p y ≡ true) x (filter p xs) is ih
     either false is ih = ih
 
--- the nonces of the buckets count on
+-- the nonces of the buckets are consecutive
 nonces_count : (c : ℕ → List Entry) (nodes : List ℕ) (v n : ℕ) → map (λ bucket. bucket.nonce) (written_of c nodes v n) ≡ range_with_len n (length (written_of c nodes v n))
 nonces_count c nodes v n = same_lists (map (λ bucket. bucket.nonce) (written_of c nodes v n)) (range_with_len n (length (written_of c nodes v n)))
     (length-map (written_of c nodes v n) (λ bucket. bucket.nonce) ∙ sym (length-range_with_len n (length (written_of c nodes v n)))) (λ k d low.
@@ -74,7 +74,7 @@ nonces_count c nodes v n = same_lists (map (λ bucket. bucket.nonce) (written_of
 written_len : (c : ℕ → List Entry) (nodes : List ℕ) (v n : ℕ) → length (written_of c nodes v n) ≡ length nodes
 written_len c nodes v n = length-map (stamps nodes v n) (with_entries_of c) ∙ stamps_len nodes v n
 
--- no nonce is near the end of its numbers
+-- so few buckets are issued that nonces don't overflow
 nonces_few : (o : Opening) (es : List Event) → FollowsLawfully o es → buckets_issued es ≤ issues es * node_count o.shape.l
 nonces_few o [] f = omega arith
 nonces_few o (Arrive client op word ∷ es) f = nonces_few o es f.0

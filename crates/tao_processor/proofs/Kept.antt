@@ -1,4 +1,4 @@
--- What one more event leaves of the groups.
+-- What one more event keeps of the invariant.
 use Rattle.std.proofs.Common.{◌≡◌, Bool, true, false, List, [], ◌∷◌, ◌++◌, reverse, refl, sym, ap, ◌∙◌, subst, ◌||◌}
 use Rattle.std.proofs.lemmas.List.{reverse-append, reverse-reverse}
 use Rattle.std.proofs.lemmas.List.Folds.{list_any-append}
@@ -25,7 +25,7 @@ use Rattle.tao_tables.proofs.KeptAnswers.{served_else}
 use Rattle.tao_tables.proofs.KeptWrites.{writes_are_told}
 use Rattle.tao_tables.proofs.ProxySteps.{follows_on}
 
--- a record that goes on lawfully, its write-backs true
+-- a record stays lawful, and its write-backs true
 pub record_more : (p : Shape) (h : History) (e : Event) → KeepsRecord p h → has_fault (reverse h.events) ≡ false → MayFollow h.opening (reverse h.events) e
     → WritesHeld h.opening (e ∷ reverse h.events) → KeepsRecord p (record h { events = h.events ++ e ∷ [] })
 record_more p h e keeps running may writes = record {
@@ -37,7 +37,7 @@ record_more p h e keeps running may writes = record {
   };
 }
 
--- the two spellings of a Fault among the events
+-- the two definitions of a Fault among the events
 fault_in : (es : List Event) → rec.has_fault (reverse es) ≡ has_fault es
 fault_in [] = refl
 fault_in (e ∷ es) =
@@ -103,7 +103,7 @@ pub fault_keeps : {x : Parts} {session : RecordState} (cause : Cause) → sessio
     → MayFollow x.session.history.opening (reverse x.session.history.events) (Fault cause) → IsProcessor (record x { session = session })
 fault_keeps {x} cause same is running may = subst (λ (r : RecordState). IsProcessor (record x { session = r })) (sym same) (fault_core {x = x} cause is running may)
 
--- the tables, where the nodes alone are others
+-- the tables, if only the nodes differ
 pub nodes_with : (o : Opening) (es : List Event) (old new : HoldingsState) → new ≡ record old { nodes = new.nodes }
     → TellsNodes o es (λ w. is_held new w) (λ w. contents_in new w) (λ w. count_in old w) (λ w. touch_in old w) (λ w. version_in old w) → NodesAre o es new
 nodes_with o es old new others tells =

@@ -1,4 +1,4 @@
--- A processor that opens has all groups.
+-- A new processor meets the invariant.
 use Rattle.std.proofs.Common.{◌≡◌, ℕ, ◌+◌, ◌*◌, ◌<◌, ◌≤◌, Bool, true, false, ◌&&◌, ◌-◌, cond, List, [], ◌∷◌, map, nat_lt, length, replicate, All, None, is_some, refl, sym, ap, ◌∙◌, subst, arith, nat_eq, get_or, inl, inr, ◌⊎◌}
 use Rattle.std.specs.Prelude.{slice_index}
 use Rattle.std.specs.List.{slice_index_or, range_with_len}
@@ -45,7 +45,7 @@ first_nonces : (contents : ℕ → List Entry) (ns : List ℕ) → map (λ bucke
 first_nonces contents [] = refl
 first_nonces contents (n ∷ ns) = ap (λ (rest : List ℕ). n ∷ rest) (first_nonces contents ns)
 
--- the load that the holdings say they were made with is that of an opening
+-- the load that the holdings were made with is that of an opening
 opens : (s : Shape) (words : List ℕ) (blocks : List (List ℕ)) (loaded : List Bucket) (stash : List Entry) → IsOpening (record { shape = s; words = words; first = blocks; loaded = loaded })
     → IsLoaded s (leaf_by (none_held s stash words)) blocks loaded stash → All (λ bucket. AreNodeEntries s bucket.entries) loaded
     → OpensWithLoad (record { shape = s; words = words; first = blocks; loaded = loaded })
@@ -170,7 +170,7 @@ opened_keeps s words blocks loaded written stash row_room place_room recent_room
     zeros : (w : ℕ) → count_in st w ≡ 0
     zeros w = none_at {X = ℕ} _ w 0 0 refl
 
--- so it is where the parts are these
+-- this holds for these parts
 pub opened_from : {s : Shape} {words : List ℕ} {blocks : List (List ℕ)} {loaded written : List Bucket} {stash : List Entry} {row_room place_room recent_room orders stock : ℕ} {v_session : RecordState} {v_requests : RequestsState} {v_done_flags : List Bool} {v_acked_flags : List Bool} {v_rows : List Fetch} {v_row_count : ℕ} {v_recent : List ℕ} {v_places : List ℕ} {v_next_nonce : ℕ} {v_holdings : HoldingsState} {v_values : List (List ℕ)} {v_value_count : ℕ}
     → IsShape s → length words ≡ s.n → length blocks ≡ s.n → All (λ value. length value ≡ s.b) blocks → IsLoaded s (leaf_by (none_held s stash words)) blocks loaded stash
     → All (λ bucket. AreNodeEntries s bucket.entries) loaded → AreEmptyBuckets (issue_len s) written → s.k * (s.l + 1) ≤ recent_room

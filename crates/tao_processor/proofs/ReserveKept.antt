@@ -1,4 +1,4 @@
--- Larger pools leave all groups.
+-- Larger pools keep the invariant.
 use Rattle.std.proofs.Common.{◌≡◌, ℕ, ◌≤◌, Bool, true, List, length, reverse, All, sym, subst, arith}
 use Rattle.tao_base.specs.declared.session.Event.{Event}
 use Rattle.tao_base.specs.Session.{Opening, History}
@@ -14,7 +14,7 @@ use Rattle.tao_processor.specs.declared.fetches.Fetch.{Fetch}
 use Rattle.tao_processor.specs.Topping.{pools_from}
 use Rattle.tao_processor.specs.Groups.{Parts, IsProcessor, pools_of}
 
--- what topping up leaves as it was
+-- what topping up leaves unchanged
 pub record TopsUp (x : Parts) (session : RecordState) (q : RequestsState) (rows : List Fetch) (row_count : ℕ) (places : List ℕ) (values : List (List ℕ)) : Type 0 where
   pub history_stays : session.history ≡ x.session.history
   pub requests_stay : q ≡ record x.requests { spare = q.spare }
@@ -140,7 +140,7 @@ grown x ready session q rows row_count row_room places place_room values value_c
     })) (sym tops.places_stay)
     (grown_core x ready session q.spare row_room place_room value_count order_count stock_count values is tops.each pools)))))
 
--- where memory ran out
+-- if memory ran out
 pub grown_keeps : {x : Parts} {session : RecordState} {q : RequestsState} {rows : List Fetch} {row_count row_room : ℕ} {places : List ℕ} {place_room : ℕ} {values : List (List ℕ)}
     {value_count order_count stock_count : ℕ} → IsProcessor x → TopsUp x session q rows row_count places values
     → KeepsPools (pools_of x) (pools_from session q.spare row_room place_room value_count order_count stock_count)
@@ -162,7 +162,7 @@ grown_keeps {x} {session} {q} {rows} {row_count} {row_room} {places} {place_room
     (room_grows x.shape x.ready (arrived (reverse x.session.history.events)) (dones (reverse x.session.history.events)) (issues (reverse x.session.history.events))
     (acks (reverse x.session.history.events)) (pools_of x) (pools_from session q.spare row_room place_room value_count order_count stock_count) keeps is.pools)
 
--- where all was there
+-- if memory sufficed
 pub ready_keeps : {x : Parts} {session : RecordState} {q : RequestsState} {rows : List Fetch} {row_count row_room : ℕ} {places : List ℕ} {place_room : ℕ} {values : List (List ℕ)}
     {value_count order_count stock_count : ℕ} {aim : Pools} → IsProcessor x → TopsUp x session q rows row_count places values
     → aim ≡ wanted x.shape x.row_count x.done_count x.issue_count x.ack_count → KeepsPools aim (pools_from session q.spare row_room place_room value_count order_count stock_count)

@@ -1,4 +1,4 @@
--- What the tables of a processor are, as functions of the record, and what holds of the memory that waits.
+-- The tables of a processor as functions of the record, and its preallocated memory.
 use Rattle.std.specs.Prelude.{◌≡◌, ℕ, ◌+◌, ◌*◌, ◌≤◌, Bool, List, length, reverse, All}
 use Rattle.std.specs.List.{slice_index_or}
 use Rattle.tao_base.specs.declared.session.Event.{Event}
@@ -21,7 +21,7 @@ use Rattle.tao_base.specs.declared.storage.Bucket.{Bucket}
 use Rattle.tao_processor.specs.Steps.{IsEmpty}
 use Rattle.tao_processor.specs.declared.fetches.Fetch.{Fetch}
 
--- all that an invariant speaks of
+-- all that the invariant speaks of
 pub record Parts : Type 0 where
   pub shape : Shape
   pub session : RecordState
@@ -68,7 +68,7 @@ pub record KeepsRequests (o : Opening) (events : List Event) (st : RequestsState
   pub follows : Follows events st.requests
   pub served : AreServed o (reverse events) st.requests
 
--- the row of no arrival
+-- the row for no arrival
 abbrev pub no_row : Fetch
 no_row = record { leaf = 0; word = 0 }
 
@@ -80,7 +80,7 @@ row_leaf rows i = (slice_index_or rows i no_row).leaf
 abbrev pub row_word : List Fetch → ℕ → ℕ
 row_word rows i = (slice_index_or rows i no_row).word
 
--- the memory that waits
+-- the preallocated memory
 abbrev pub pools_of : Parts → Pools
 pools_of x = record {
   dones = x.session.dones;
@@ -94,7 +94,7 @@ pools_of x = record {
   places = x.place_room;
 }
 
--- all groups
+-- the invariant: all groups
 pub record IsProcessor (x : Parts) : Type 0 where
   pub record_is : KeepsRecord x.shape x.session.history
   pub held_is : KeepsHoldings x.session.history.opening (reverse x.session.history.events) x.holdings

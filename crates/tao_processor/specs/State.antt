@@ -12,7 +12,7 @@ use Rattle.tao_held.specs.Held.{held, IsOfProxy}
 use Rattle.tao_tables.specs.Tables.{cover_count}
 use Rattle.tao_holdings.specs.Holding.{HoldingsState, is_held, contents_in, count_in, touch_in, version_in, leaf_by, AreForms}
 
--- the key, the record, what is held, whether one more arrival has its memory, and the buckets that were looked at last
+-- the key, the record, what is held, whether one more arrival is preallocated, and the buckets that were looked at last
 pub record ProcessorState : Type 0 where
   pub key : List ℕ
   pub history : History

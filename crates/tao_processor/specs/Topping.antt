@@ -18,7 +18,7 @@ pools_from session spare rows places values orders stock = record {
   places = places;
 }
 
--- the pools that are wanted, with room for one request
+-- the pools that are wanted, with capacity for one request
 abbrev pub pools_in : Wanted → Pools
 pools_in w = record {
   dones = w.dones;

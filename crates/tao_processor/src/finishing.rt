@@ -1,4 +1,4 @@
-//! What a Done makes of requests and holdings.
+//! What a Done does to requests and holdings.
 ghost use Rattle.std.specs.Prelude.{◌≡◌, ℕ, ◌+◌, ◌^◌, ◌<◌, ◌≤◌, true, false, length, vec_len, All};
 ghost use Rattle.tao_model.specs.Events.{is_pad_op};
 ghost use Rattle.tao_requests.specs.State.{request_at, block_of, IsUnderWay};
@@ -9,7 +9,7 @@ use tao_base::Block;
 use tao_holdings::Holdings;
 use tao_requests::{Kind, Requests};
 
-/// Settles a real arrival by what a look-up on its path finds, and evicts the path.
+/// Settles a real arrival with the value found on its path, and evicts the path.
 pub(crate) fn finish(
     holdings: &mut Holdings,
     requests: &mut Requests,

@@ -1,4 +1,4 @@
-//! Nodes that leave.
+//! Drops nodes that may leave.
 ghost use Rattle.std.specs.Prelude.{◌≡◌, ℕ};
 ghost use Rattle.tao_base.specs.declared.session.Event.TheVariants.{Issue};
 ghost use Rattle.tao_model.specs.WholeRecords.{IsAt};
@@ -9,7 +9,7 @@ ghost use Rattle.tao_processor.specs.Steps.{Forgets};
 use tao_base::{Bucket, Event};
 use tao_holdings::Holdings;
 
-/// The buckets of the write-back of this version, which stands at a place of the record.
+/// The buckets of this version's write-back, which is at this place of the record.
 pub(crate) fn issued(events: &[Event], place: usize, version: u32) -> &[Bucket]
     requires there { IsIssueAt events.now place version }
     ensures { (nonce : ℕ) × IsAt events.now place (Issue version nonce result.now) }
@@ -22,7 +22,7 @@ pub(crate) fn issued(events: &[Event], place: usize, version: u32) -> &[Bucket]
     }
 }
 
-/// Lets the nodes of these buckets go that may, once their write-back of this version is acknowledged.
+/// Drops those nodes of these buckets that may leave on the acknowledgement of this version.
 pub(crate) fn forget_all(holdings: &mut Holdings, version: u32, buckets: &[Bucket])
     ensures { Forgets version (nodes_in buckets.now) holdings.old holdings.new }
 {

@@ -6,7 +6,7 @@ ghost use Rattle.tao_processor.specs.Steps.{AreEmptyBuckets};
 use std::alloc::Global;
 use tao_base::{Bucket, Entries, NoMemory, Params};
 
-/// Buckets in whose place those of any write-back can stand.
+/// Empty buckets, enough for any write-back.
 pub(crate) fn empty_buckets(alloc: Global, p: &Params) -> Result<Vec<Bucket>, NoMemory>
     ensures { IfOk result (λ buckets. AreEmptyBuckets (issue_len p.now) buckets.items) }
 {

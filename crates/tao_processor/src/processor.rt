@@ -1,4 +1,4 @@
-//! The processor.
+//! The processor: the proxy's tables, and the events that change them.
 ghost use Rattle.std.specs.Prelude.{◌≡◌, ℕ, ◌+◌, ◌*◌, ◌<◌, ◌≤◌, [], ◌∷◌, true, false, IfOk, OnOk, OnErr, length, reverse, vec_len, All};
 ghost use Rattle.tao_base.specs.declared.session.Event.TheVariants.{Arrive, Done, Issue, Acked, Fault};
 ghost use Rattle.tao_model.specs.Events.{has_fault, arrived, dones, issues};
@@ -20,7 +20,7 @@ use tao_requests::Requests;
 use tao_sequence::Sequence;
 use tao_tables::touch_path;
 
-/// All that the proxy keeps but its tape.
+/// All that the proxy keeps, except its tape.
 #[derive(Drop)]
 pub struct Processor {
     alloc: Global,
@@ -86,7 +86,7 @@ impl Model for Processor {
 impl Processor {
     ghost use Rattle.tao_processor.specs.State.{with_event, IsProcessorSound, Issues, IsOpened};
 
-    /// Loads all blocks by the words, and begins a session.
+    /// Loads all blocks, with these words for their positions, and begins a session.
     pub fn open(
         alloc: Global,
         p: &Params,
@@ -131,7 +131,7 @@ impl Processor {
         })
     }
 
-    /// What is known after each event.
+    /// The facts that hold after each event, for callers' proofs.
     pub fn sound(&self)
         ensures { IsProcessorSound self.now }
     {
@@ -139,7 +139,7 @@ impl Processor {
         self.holdings.forms();
     }
 
-    /// Takes the memory of one more arrival. The one call that takes memory, once the session has begun.
+    /// Preallocates for one more arrival. Once the session has begun, this is the only call that takes memory.
     pub fn reserve(&mut self) -> Result<(), NoMemory>
         ensures ok { OnOk result (self.new ≡ record self.old { ready = true }) }
         ensures err { OnErr result (self.new ≡ self.old) }
@@ -172,7 +172,7 @@ impl Processor {
         }
     }
 
-    /// The session is over.
+    /// Records a fault, which ends the session.
     pub fn fault(&mut self, cause: Cause)
         requires running { has_fault (reverse self.old.history.events) ≡ false }
         requires follows { MayFollow self.old.history.opening (reverse self.old.history.events) (Fault cause) }
@@ -181,7 +181,7 @@ impl Processor {
         self.session.add_fault(cause);
     }
 
-    /// The path of this arrival was looked at, and comes in.
+    /// Admits the path of this arrival, which was looked at last.
     pub fn done(&mut self, arrival: u64)
         requires running { has_fault (reverse self.old.history.events) ≡ false }
         requires follows { MayFollow self.old.history.opening (reverse self.old.history.events) (Done arrival self.old.looked) }
@@ -205,7 +205,7 @@ impl Processor {
         self.dones += 1;
     }
 
-    /// A client asks, and its arrival gets the leaf that it fetches.
+    /// A client's operation arrives. Gives the leaf that it fetches.
     pub fn arrive(&mut self, client: u32, op: Op, word: u32) -> u32
         requires ready { self.old.ready ≡ true }
         requires running { has_fault (reverse self.old.history.events) ≡ false }
@@ -236,7 +236,7 @@ impl Processor {
         self.session.add_acked(version);
     }
 
-    /// The write-back of a period that is full.
+    /// Issues the write-back of a full period.
     pub fn issue(&mut self)
         requires running { has_fault (reverse self.old.history.events) ≡ false }
         requires due { dones (reverse self.old.history.events) ≡ (issues (reverse self.old.history.events) + 1) * self.old.history.opening.shape.k }

@@ -1,4 +1,4 @@
-//! Memory for one more arrival.
+//! Preallocates for one more arrival.
 ghost use Rattle.std.specs.Prelude.{◌≡◌, ◌≤◌, length, vec_len, vec_capacity, All, OnOk};
 ghost use Rattle.tao_tables.specs.Pools.{KeepsPools, wanted};
 ghost use Rattle.tao_processor.specs.Topping.{pools_from, pools_in};
@@ -9,7 +9,7 @@ use tao_base::{Block, Bucket, Entries, Image, NoMemory, Numbers, Order, Params};
 use tao_record::Record;
 use tao_requests::Requests;
 
-/// Makes the values at least so many, each of `len` bytes.
+/// Fills up the values to at least this many, each of `len` bytes.
 pub(crate) fn fill_values(
     alloc: Global,
     len: usize,
@@ -27,7 +27,7 @@ pub(crate) fn fill_values(
     Ok(())
 }
 
-/// Makes the orders at least so many.
+/// Fills up the orders to at least this many.
 pub(crate) fn fill_orders(
     alloc: Global,
     orders: &mut Vec<Order>,
@@ -47,7 +47,7 @@ pub(crate) fn fill_orders(
     Ok(())
 }
 
-/// Makes the buckets of stock at least so many.
+/// Fills up the buckets of the stock to at least this many.
 pub(crate) fn fill_stock(
     alloc: Global,
     stock: &mut Vec<Bucket>,
@@ -67,7 +67,7 @@ pub(crate) fn fill_stock(
     Ok(())
 }
 
-/// Gives the list capacity for so many items.
+/// Gives the list capacity for this many items.
 pub(crate) fn widen<T>(list: &mut Vec<T>, count: usize) -> Result<(), NoMemory>
 where
     T: Drop,
@@ -81,7 +81,7 @@ where
     Ok(())
 }
 
-/// How much there has to be in each pool.
+/// How much each pool has to have.
 #[derive(Clone, Copy, Debug)]
 pub(crate) struct Wanted {
     pub dones: usize,
@@ -94,7 +94,7 @@ pub(crate) struct Wanted {
     pub places: usize,
 }
 
-/// What one more arrival wants, after so many arrivals, Dones, write-backs and acknowledgements.
+/// What one more arrival needs, by the counts of arrivals, Dones, write-backs and acknowledgements so far.
 pub(crate) fn wanted_now(p: &Params, arrivals: usize, dones: u64, issues: u32, acks: u32) -> Wanted
     requires most { arrivals ≤ 65536 }
     requires within { dones ≤ arrivals }
@@ -115,7 +115,7 @@ pub(crate) fn wanted_now(p: &Params, arrivals: usize, dones: u64, issues: u32, a
     }
 }
 
-/// Makes all pools at least so large. Where memory runs out, some are larger than before.
+/// Fills up all pools to at least these sizes. If memory runs out, some have grown.
 pub(crate) fn top_up(
     alloc: Global,
     b: usize,

@@ -1,4 +1,4 @@
-//! Write-backs.
+//! Records write-backs.
 ghost use Rattle.std.specs.Prelude.{◌≡◌, ℕ, ◌+◌, ◌-◌, ◌^◌, ◌<◌, ◌≤◌, true, [], length, All};
 ghost use Rattle.std.specs.List.Sorted.{IsStrictlyIncreasing};
 ghost use Rattle.tao_base.specs.declared.session.Event.TheVariants.{Issue};
@@ -11,7 +11,7 @@ use tao_base::Bucket;
 use tao_holdings::Holdings;
 use tao_record::Record;
 
-/// Records a write-back of these nodes with what they hold. The buckets are of use for it alone.
+/// Records a write-back of these nodes with what they hold. The buckets of `written` are scratch space, empty before and after.
 pub(crate) fn write_back(
     session: &mut Record,
     holdings: &mut Holdings,
@@ -42,7 +42,7 @@ pub(crate) fn write_back(
     holdings.exchange(front);
 }
 
-// Makes them the empty buckets of these nodes.
+// Makes these the empty buckets of the nodes.
 fn stamp(buckets: &mut [Bucket], nodes: &[u32], version: u32, nonce: u64)
     requires count { length buckets.old ≡ length nodes.now }
     requires empty { All IsEmpty buckets.old }
