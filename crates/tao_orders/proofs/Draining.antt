@@ -33,7 +33,7 @@ among pass v may items views r at n =
     let f = fewer_times n r.gone (works items) in
     let e : times n (map number_of v.put) ≡ times n (map number_of (r.gone ++ works items)) = ap (λ (l : List Work). times n (map number_of l)) ((r.putter pass v at may).1 ∙ r.sent_is) in omega arith
 
--- what is left, where the first piece that was taken is left with all behind it
+-- what is left, if it is the first piece that was taken and all after it
 pub left_from : (v : Hand) (x : Slip) (w : Hand) (left : List Work) → DidDrain v x w → left ≡ drop x.number w.put → IsLeft v.put v.took left
 left_from v x w left did is = record {
   gone = take x.number v.put;
@@ -47,7 +47,7 @@ left_none v left is_among none = record { gone = v.put; suffix = sym (append-nil
 pub first_from : (v : Hand) (x : Slip) (w : Hand) → DidDrain v x w → (x.number < length v.put) × (x.work ∷ [] ≡ take 1 (drop x.number w.put))
 first_from v x w did = (piece_within v.put x.number x.work did.1, sym (ap (λ (u : Hand). take 1 (drop x.number u.put)) did.0 ∙ take_one v.put x.number x.work did.1))
 
--- one more piece behind those that were taken
+-- one more piece after those that were taken
 pub next_from : (v : Hand) (x : Slip) (w : Hand) (put left : List Work) (from : ℕ) → DidDrain v x w → v.put ≡ put → x.number ≡ from + length left → left ≡ take (length left) (drop from put)
     → (x.number < length put) × (left ++ x.work ∷ [] ≡ take (length left + 1) (drop from put))
 next_from v x w put left from did same place so_far =

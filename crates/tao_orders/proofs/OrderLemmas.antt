@@ -22,7 +22,7 @@ times-append n ms ns = sum_by-append (λ m. cond (eqb m n) 1 0) ms ns
 times_first : (n m : ℕ) (ms : List ℕ) → times n (m ∷ ms) ≡ cond (eqb m n) 1 0 + times n ms
 times_first n m ms = times-append n (m ∷ []) ms ∙ ap (λ (k : ℕ). k + times n ms) (nothing_added (cond (eqb m n) 1 0))
 
--- the numbers of a front of the works are among those of all
+-- the numbers of a prefix of the works are among those of all
 pub fewer_times : (n : ℕ) (gone rest : List Work) → times n (map number_of gone) ≤ times n (map number_of (gone ++ rest))
 fewer_times n gone rest =
     let e : times n (map number_of (gone ++ rest)) ≡ times n (map number_of gone) + times n (map number_of rest) =
@@ -59,7 +59,7 @@ none_later first n (w ∷ ws) some e all =
     let apart : number_of w ≢ n = not_again first w n some e (all 0 w (omega arith)) in
     times_first n (number_of w) (map number_of ws) ∙ (ap (λ (b : Bool). cond b 1 0 + times n (map number_of ws)) (ne_eqb (number_of w) n apart) ∙ (nothing_added (times n (map number_of ws)) ∙ rest))
 
--- in order no version stands twice
+-- works in order have no version twice
 pub once_in_order : (works : List Work) → AllPairs MayFollow works → (n : ℕ) → 1 ≤ n → times n (map number_of works) ≤ 1
 once_in_order [] pairs n some = omega arith
 once_in_order (w ∷ ws) pairs n some =
@@ -70,7 +70,7 @@ once_in_order (w ∷ ws) pairs n some =
     let e : times n (map number_of (w ∷ ws)) ≡ 1 = step ∙ (ap (λ (b : Bool). cond b 1 0 + times n (map number_of ws)) (eq-eqb (number_of w) n same) ∙ ap (λ (k : ℕ). 1 + k) none) in omega arith)
     (λ apart. let e : times n (map number_of (w ∷ ws)) ≡ times n (map number_of ws) = step ∙ (ap (λ (b : Bool). cond b 1 0 + times n (map number_of ws)) (ne_eqb (number_of w) n apart) ∙ nothing_added (times n (map number_of ws))) in omega arith)
 
--- the piece behind the front
+-- the piece after a prefix
 pub piece_at : (gone rest : List Work) (w : Work) → slice_get (gone ++ w ∷ rest) (length gone) ≡ Some w
 piece_at [] rest w = refl
 piece_at (x ∷ gone) rest w = piece_at gone rest w
@@ -84,7 +84,7 @@ piece_within [] k w e = absurd (none-some w e)
 piece_within (x ∷ works) zero w e = omega arith
 piece_within (x ∷ works) (suc k) w e = let h = piece_within works k w e in omega arith
 
--- from a piece on, one more
+-- the first piece from a place on
 pub take_one : (works : List Work) (k : ℕ) (w : Work) → slice_get works k ≡ Some w → take 1 (drop k works) ≡ w ∷ []
 take_one [] k w e = absurd (none-some w e)
 take_one (x ∷ works) zero w e = ap (λ (z : Work). z ∷ []) (same_Some x w e)
@@ -106,7 +106,7 @@ newer Stop (Order q) bad some order = absurd bad
 newer (Order p) Stop may some order = absurd (omega arith)
 newer Stop Stop may some order = absurd (omega arith)
 
--- what stands before an order are orders of lesser versions
+-- only orders of smaller versions come before an order
 pub newer_than : (gone rest : List Work) (w : Work) (n : ℕ) → IsInOrder (gone ++ w ∷ rest) → 1 ≤ number_of w → 1 ≤ times n (map number_of gone) → (1 ≤ n) × (n < number_of w)
 newer_than [] rest w n order version stands = absurd (omega arith)
 newer_than (g ∷ gone) rest w n order version stands =

@@ -28,7 +28,7 @@ forks pass v items views r at =
       in_order = r.in_order;
     })
 
--- what all took stays where one pass takes over what another took
+-- what all took stays when one pass takes over what another took
 taken_over : (n pass : ℕ) (v : Hand) (other : ℕ) (w b : Hand) (views : List Hand) → get_elem? views pass ≡ some v → get_elem? (set views pass b) other ≡ some w
     → b.took ≡ v.took ++ w.took → taken n (set (set views pass b) other newcomer) ≡ taken n views
 taken_over n pass v other w b views at at' both =

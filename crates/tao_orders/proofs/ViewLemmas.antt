@@ -1,4 +1,4 @@
--- The views of all passes where one of them changes.
+-- The views of all passes when one of them changes.
 use Rattle.std.proofs.Common.{◌≡◌, ◌≢◌, ℕ, zero, suc, ◌+◌, ◌<◌, ◌≤◌, List, [], ◌∷◌, ◌++◌, length, get_or, set, sym, ap, ◌∙◌, subst, arith, ⊎_elim}
 use mathlib.Core.Option.{some, some-injective, some-ne-none}
 use lib.ListN.{get_elem?}
@@ -40,7 +40,7 @@ own_taken n (x ∷ xs) (suc pass) v at =
     let h = own_taken n xs pass v at in
     let e = taken_first n x xs in omega arith
 
--- a fact of each view, where one changes
+-- a fact of each view, when one changes
 pub every : (F : ℕ → Hand → Type 0) (views : List Hand) (pass : ℕ) (w : Hand) → F pass w → ((j : ℕ) (u : Hand) → j ≢ pass → get_elem? views j ≡ some u → F j u) → (j : ℕ) (u : Hand) → get_elem? (set views pass w) j ≡ some u → F j u
 every F views pass w mine others j u e = ⊎_elim (λ (x : (j ≡ pass) × (w ≡ u)). subst (λ (y : ℕ × Hand). F y.0 y.1) (λ i. (sym x.0 i, x.1 i)) mine)
     (λ (x : (j ≢ pass) × (get_elem? views j ≡ some u)). others j u x.0 x.1) (at_set views pass j w u e)

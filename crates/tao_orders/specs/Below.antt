@@ -8,6 +8,6 @@ use Rattle.tao_orders.specs.declared.work.Work.{Work}
 abbrev pub IsBelow : ℕ → Work → Type 0
 IsBelow n work = (1 ≤ number_of work) × (number_of work < n)
 
--- so are all of these
+-- all of these are
 abbrev pub AreBelow : ℕ → List Work → Type 0
 AreBelow n works = All (IsBelow n) works

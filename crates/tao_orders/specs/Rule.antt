@@ -20,7 +20,7 @@ works slips = map (λ slip. slip.work) slips
 abbrev pub taken : ℕ → List Hand → ℕ
 taken n views = sum_by (λ v. times n v.took) views
 
--- what was put is what is gone and then what the queue holds, each slip with its place; one pass puts; what is gone was taken, each once
+-- what was put is what is gone and then what the queue holds, each slip with its place; one pass puts; each that is gone was taken once
 pub record InLine (slips : List Slip) (views : List Hand) : Type 0 where
   pub sent : List Work
   pub gone : List Work
@@ -31,7 +31,7 @@ pub record InLine (slips : List Slip) (views : List Hand) : Type 0 where
   pub once : (n : ℕ) → taken n views ≡ times n (map number_of gone)
   pub in_order : IsInOrder sent
 
--- a piece was put behind all others
+-- a piece was appended
 abbrev pub DidPut : Hand → Slip → Hand → Type 0
 DidPut v slip w = w ≡ hand v.puts (v.put ++ slip.work ∷ []) v.took
 
@@ -39,11 +39,11 @@ DidPut v slip w = w ≡ hand v.puts (v.put ++ slip.work ∷ []) v.took
 abbrev pub HoldsLast : List Work → List Slip → Type 0
 HoldsLast put slips = (gone : List Work) × (put ≡ gone ++ works slips)
 
--- a piece was taken, which was put behind all that this pass took and which nobody took before
+-- a piece was taken, which was put after all that this pass took and which nobody took before
 abbrev pub DidTake : Hand → Slip → Hand → Type 0
 DidTake v slip w = (w ≡ hand v.puts v.put (v.took ++ number_of slip.work ∷ [])) × IsNumbered slip.work × IsNewest v.took (number_of slip.work) × EachOnce w.took
 
--- the putting pass took a piece, which it finds at its place; what it took before is among what stands before it
+-- the putting pass took the piece at this place of what it put; what it took before is among what comes before it
 abbrev pub DidDrain : Hand → Slip → Hand → Type 0
 DidDrain v slip w = (w ≡ hand v.puts v.put (v.took ++ number_of slip.work ∷ [])) × (slice_get v.put slip.number ≡ Some slip.work)
     × ((n : ℕ) → times n v.took ≤ times n (map number_of (take slip.number v.put)))

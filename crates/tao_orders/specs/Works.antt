@@ -9,7 +9,7 @@ abbrev pub number_of : Work → ℕ
 number_of (Order order) = order.version
 number_of Stop = 0
 
--- the number 0 is a Stop's alone
+-- only a Stop has the number 0
 abbrev pub IsNumbered : Work → Type 0
 IsNumbered (Order order) = 1 ≤ order.version
 IsNumbered Stop = ⊤
@@ -24,15 +24,15 @@ MayFollow (Order first) (Order order) = first.version < order.version
 abbrev pub MayPut : List Work → Work → Type 0
 MayPut put work = IsNumbered work × All (λ first. MayFollow first work) put
 
--- versions rise, and no order stands behind a Stop
+-- versions rise, and no order comes after a Stop
 abbrev pub IsInOrder : List Work → Type 0
 IsInOrder works = All IsNumbered works × AllPairs MayFollow works
 
--- how often a number stands in the list
+-- how often the list has a number
 abbrev pub times : ℕ → List ℕ → ℕ
 times n ns = count_by (λ m. m == n) ns
 
--- no version stands twice in the list
+-- the list has no version twice
 abbrev pub EachOnce : List ℕ → Type 0
 EachOnce ns = (n : ℕ) → 1 ≤ n → times n ns ≤ 1
 
@@ -40,7 +40,7 @@ EachOnce ns = (n : ℕ) → 1 ≤ n → times n ns ≤ 1
 abbrev pub IsNewest : List ℕ → ℕ → Type 0
 IsNewest took version = 1 ≤ version → (n : ℕ) → 1 ≤ times n took → (1 ≤ n) × (n < version)
 
--- a last part of what was put; the numbers that a pass took are among those of what stands before it
+-- a suffix of what was put; the numbers that a pass took are among those of the rest
 pub record IsLeft (put : List Work) (took : List ℕ) (left : List Work) : Type 0 where
   pub gone : List Work
   pub suffix : put ≡ gone ++ left

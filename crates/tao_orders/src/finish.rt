@@ -17,7 +17,7 @@ pub type Left = Items<Work>;
 impl Orders {
     ghost use Rattle.tao_orders.specs.Passes.{IsPutPassOf, IsTakePassOf, put_of, took_of};
 
-    /// Takes out what is left: the last pieces that were put. What the pass took stands among the others.
+    /// Takes out what is left, a suffix of what was put. What the pass took is among the rest.
     pub fn finish<R: Wait>(self, rt: &R, put: PutPass, take: TakePass) -> Left
         requires passes { IsPutPassOf self put × IsTakePassOf self take }
         ensures { IsLeft (put_of put) (took_of take) result }
@@ -33,7 +33,7 @@ impl Orders {
     }
 }
 
-// The pieces that the queue holds. They follow each other up to the last that was put, since nobody else puts or takes any more.
+// The pieces that the queue holds: consecutive ones up to the last that was put, since nobody else puts or takes any more.
 fn drained<R: Wait>(
     rt: &R,
     line: &Line,
@@ -57,7 +57,7 @@ fn drained<R: Wait>(
     left
 }
 
-// The pieces behind the first one, which has the number `from`.
+// The pieces after the first one, which has the number `from`.
 fn drain_rest<R: Wait>(
     rt: &R,
     line: &Line,

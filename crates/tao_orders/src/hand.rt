@@ -6,7 +6,7 @@ use crossbeam_queue::protocol::Protocol;
 use crossbeam_queue::{Pass, RuledArrayQueue};
 use std::collections::LinkedList;
 
-/// Whether a pass is the one that puts, what it put, and the versions that it took, with 0 for a Stop. No value of it is made.
+/// Whether a pass is the one that puts, what it put, and the versions that it took, with 0 for a Stop. This type is for the proofs alone.
 pub struct Hand {
     pub puts: bool,
     pub put: LinkedList<Work>,

@@ -1,4 +1,4 @@
-//! Write-backs and the words that end their writers, first in first out: one pass puts, and any number of passes take.
+//! A FIFO queue of write-backs and of Stops, which end their writers: one pass puts, and any number of passes take.
 #![tactic(auto)]
 
 mod finish;

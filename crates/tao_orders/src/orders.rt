@@ -16,7 +16,7 @@ use tao_base::NoMemory;
 #[derive(Drop)]
 pub struct Orders {
     pub(crate) line: Line,
-    // room for what is left at the end
+    // preallocated for what is left at the end
     pub(crate) room: Vec<Work>,
     ghost empty: { room.items ≡ [] },
     ghost room_is_kept: { ruled_capacity line ≤ vec_capacity room },
@@ -25,7 +25,7 @@ pub struct Orders {
 impl Orders {
     ghost use Rattle.tao_orders.specs.Passes.{IsPutPassOf, IsTakePassOf, capacity_of, put_of, took_of, WasFull};
 
-    /// A queue that holds nothing, with the pass that puts and a pass that takes.
+    /// An empty queue, with the pass that puts and a pass that takes.
     pub fn new(alloc: Global, capacity: usize) -> Result<(Orders, PutPass, TakePass), NoMemory>
         requires { 0 < capacity }
         ensures passes { IfOk result (λ r. IsPutPassOf r.0 r.1 × IsTakePassOf r.0 r.2) }
@@ -42,7 +42,7 @@ impl Orders {
         ))
     }
 
-    /// Puts a piece of work behind all others. It comes back only where the queue was full at one moment of the call.
+    /// Appends a piece of work. It comes back only if the queue was full at some moment of the call.
     pub fn put<R: Wait>(&self, rt: &R, pass: &mut PutPass, work: Work) -> Result<(), Work>
         requires pass { IsPutPassOf self.now pass.old }
         requires order { MayPut (put_of pass.old) work }
@@ -65,7 +65,7 @@ impl Orders {
         }
     }
 
-    /// Takes the oldest piece of work. None only where the queue was empty at one moment of the call.
+    /// Takes the oldest piece of work. None only if the queue was empty at some moment of the call.
     pub fn take<R: Wait>(&self, rt: &R, pass: &mut TakePass) -> Option<Work>
         requires pass { IsTakePassOf self.now pass.old }
         ensures pass { IsTakePassOf self.now pass.new }
@@ -82,7 +82,7 @@ impl Orders {
     }
 }
 
-/// Returns only where the fact holds: one that always holds, but can't be shown.
+/// Waits forever unless the fact holds. It always does, but that can't be proved.
 pub(crate) fn wait_unless<R: Wait>(rt: &R, holds: bool)
     ensures { IsTrue holds }
 {

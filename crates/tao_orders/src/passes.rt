@@ -1,4 +1,4 @@
-//! The passes, and how taking passes are made and joined.
+//! The passes: makes and joins taking passes.
 ghost use Rattle.std.specs.Prelude.{◌≡◌, ◌++◌, true, [], length};
 ghost use Rattle.crossbeam_queue.specs.Passes.{view};
 ghost use Rattle.tao_orders.specs.Works.{EachOnce};
@@ -26,7 +26,7 @@ pub struct TakePass {
 impl Orders {
     ghost use Rattle.tao_orders.specs.Passes.{IsTakePassOf, took_of};
 
-    /// One more taking pass, which took nothing yet.
+    /// One more taking pass, which has taken nothing yet.
     pub fn split(&self, pass: &mut TakePass) -> TakePass
         requires pass { IsTakePassOf self.now pass.old }
         ensures passes { IsTakePassOf self.now pass.new × IsTakePassOf self.now result }
@@ -38,7 +38,7 @@ impl Orders {
         }
     }
 
-    /// Puts what the other pass took behind what this one took.
+    /// Joins the other pass to this one. What it took comes after what this one took.
     pub fn join(&self, pass: &mut TakePass, other: TakePass)
         requires passes { IsTakePassOf self.now pass.old × IsTakePassOf self.now other }
         ensures pass { IsTakePassOf self.now pass.new }

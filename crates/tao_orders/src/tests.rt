@@ -36,7 +36,7 @@ fn version_of(work: &Work) -> u32 {
     }
 }
 
-// Puts an order of a greater version than all before, and tells whether it was put.
+// Puts an order of a greater version than all before, and says whether it was accepted.
 #[tactic(auto, using(crate::proofs::BelowLemmas::next_may, crate::proofs::BelowLemmas::below_more))]
 fn put<R: Wait>(rt: &R, alloc: Global, orders: &Orders, pass: &mut PutPass, version: u32) -> bool
     requires pass { IsPutPassOf orders.now pass.old }

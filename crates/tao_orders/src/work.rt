@@ -2,7 +2,7 @@
 
 use tao_base::Order;
 
-/// A write-back that is to be stored, or the word that ends a writer.
+/// A write-back to be stored, or the Stop that ends a writer.
 #[derive(Debug, Drop)]
 pub enum Work {
     Order(Order),
