@@ -68,11 +68,7 @@ module _ {T E : Type 0} (entries : T → List E) (mark_of : List E → ℕ) (mak
     live : is_live v.stage ≡ true
     live = ap is_live idle
 
-    -- the ticket served is no greater than the next
-    ordered : get_or s.words 1 0 ≤ get_or s.words 0 0
-    ordered = let a = next_is in let b = serving_is in let c : r.serving ≤ r.next = r.in_order in omega arith
-
-    -- where they are equal, the value is at home
+    -- if they are equal, the value is at home
     ends : get_or s.words 0 0 ≡ get_or s.words 1 0 → (x : T) × (s.homes ≡ some (Some x) ∷ []) × MayFind maker mark_of v.known (entries x) × (list_of entries r.place ≡ entries x)
     ends same =
         let no_turn : r.next ≡ r.serving = sym next_is ∙ (same ∙ serving_is) in
@@ -114,9 +110,6 @@ module _ {T E : Type 0} (entries : T → List E) (mark_of : List E → ℕ) (mak
 
     b_is : get_or f.0.words 1 0 ≡ b
     b_is = ap (λ (l : List ℕ). get_or l 1 0) f.2 ∙ get_or_of ws 1 b at_b
-
-    pub closes_in_order : b ≤ a
-    closes_in_order = let o = ordered f.0 f.1.0 id v f.1.1 idle in let x = a_is in let y = b_is in omega arith
 
     pub closes_alone : HasAll seats v.known.shares → a ≡ b
     closes_alone all = sym a_is ∙ (no_tickets f.0 f.1.0 id v f.1.1 idle all ∙ b_is)

@@ -23,7 +23,7 @@ use Rattle.tao_turn.proofs.ViewLemmas.{flat, here, there, every}
 use Rattle.tao_turn.proofs.Keeping.{stays_in, unmoved, drawn_on, known_on, owned_on}
 
 module _ {T E : Type 0} (entries : T → List E) (mark_of : List E → ℕ) (maker : List E → ℕ → Option ℕ) (seats : ℕ) where
-  -- of two beginnings of the list, one begins the other, and nobody else made the rest under the shares of who saw the shorter
+  -- of two prefixes of the list, one is a prefix of the other, and nobody else made the rest under the shares of who saw the shorter
   of_one : ((xs ys : List E) (i : ℕ) → i < length xs → maker (xs ++ ys) i ≡ maker xs i) → (l : List E) (a b : Knowledge E) → Begins a.seen l → Begins b.seen l
       → NoneMade maker l (length a.seen) a.shares → NoneMade maker l (length b.seen) b.shares → AreOfOne maker a b
   of_one stays l a b bv bw nv nw = dite (dec_le (length a.seen) (length b.seen))

@@ -1,4 +1,4 @@
--- What the steps share: the parts of the rule where one view changes.
+-- What the steps share: the parts of the rule when one view changes.
 use Rattle.std.proofs.Common.{◌≡◌, ℕ, zero, suc, ◌<◌, ◌≤◌, get_or, set, List, [], ◌∷◌, ◌++◌, refl, sym, ap, ◌∙◌, subst, true, false, true≢false, Bool, arith}
 use mathlib.Core.Option.{none, some}
 use mathlib.Core.Option as maybe
@@ -23,7 +23,7 @@ pub is_out : {T E : Type 0} (entries : T → List E) (p : Place T E) (j : ℕ) (
 is_out entries (home x) j l h = absurd (true≢false h)
 is_out entries (out k m) j l h = λ i. out (h.0 i) (h.1 i)
 
--- what holds of a live view holds where only its stage changes
+-- what holds of a live view still holds if only its stage changes
 pub owns_on : (seats : ℕ) (owner : ℕ → ℕ) (j : ℕ) (b c : Bool) (ns : List ℕ) → b ≡ true → OwnsShares seats owner j b ns → OwnsShares seats owner j c ns
 owns_on seats owner j b c ns e h = record { owns = λ _. h.owns e; some_share = λ _. h.some_share e }
 
@@ -34,7 +34,7 @@ module _ {E : Type 0} where
   pub marked_on : (mark_of : List E → ℕ) (mark : ℕ) (b c : Bool) (p : ℕ) (k : Knowledge E) → b ≡ true → IsMarked mark_of mark b p k → IsMarked mark_of mark c p k
   marked_on mark_of mark b c p k e h = record { glanced = h.glanced; within = h.within; enough = λ _. h.enough e }
 
-  -- marks are within where the mark rises
+  -- marks stay within if the mark rises
   pub marked_up : (mark_of : List E → ℕ) (mark more : ℕ) (b : Bool) (p : ℕ) (k : Knowledge E) → mark ≤ more → IsMarked mark_of mark b p k → IsMarked mark_of more b p k
   marked_up mark_of mark more b p k le h = let g = h.glanced in let w = h.within in record { glanced = omega arith; within = omega arith; enough = h.enough }
 
@@ -64,7 +64,7 @@ module _ {T E : Type 0} (entries : T → List E) (mark_of : List E → ℕ) (mak
   abbrev pub Goes : St → ℕ → ℕ → M → (M → Type 0) → ℕ → Type 0
   Goes s i id me told new = (w : View E) × (a : Act (Option T)) × Valid s.homes me.1 a × Turn entries mark_of maker seats (stepped s i new id me.1 w a) × told (w, carried_after me.1 a)
 
-  -- where the value is stays, as does the holder
+  -- the place of the value stays, and so does the holder
   pub stays_in : (homes : List (maybe.Option (Option T))) (views : List (View E)) (id : ℕ) (v w : View E) → get_elem? views id ≡ some v
       → (is_holder v.stage ≡ true → is_holder w.stage ≡ true) → (p : Place T E) → IsInPlace entries homes views p → IsInPlace entries homes (set views id w) p
   stays_in homes views id v w at keeps_on (home x) h = h

@@ -1,4 +1,4 @@
--- Beginnings of lists, and the longer of two of them.
+-- Prefixes of lists, and the longer of two of them.
 use Rattle.std.proofs.Common.{◌≡◌, ℕ, zero, suc, ◌+◌, ◌<◌, ◌≤◌, List, [], ◌∷◌, ◌++◌, length, drop, refl, sym, ap, ◌∙◌, subst, true, false, Bool, arith, ⊎_elim, append_assoc, length-append, append-nil, ◌⊎◌}
 use mathlib.Core.Option.{some, some-injective, some-ne-none}
 use mathlib.Core.Logic.{dite}
@@ -31,7 +31,7 @@ antisym xs ys a b = let e : length xs + length a.0 ≡ length ys = sym (length-a
     let f : length ys + length b.0 ≡ length xs = sym (length-append ys b.0) ∙ ap length b.1 in
     sym (append-nil xs) ∙ (ap (λ l. xs ++ l) (sym (empty a.0 (omega arith))) ∙ a.1)
 
--- of two beginnings of one list, the one that is no longer begins the other
+-- of two prefixes of one list, the one that isn't longer is a prefix of the other
 pub begins_both : {E : Type 0} (xs ys l : List E) → Begins xs l → Begins ys l → length xs ≤ length ys → Begins xs ys
 begins_both [] ys l a b le = (ys, refl)
 begins_both (x ∷ xs) [] l a b le = absurd (omega arith)

@@ -1,4 +1,4 @@
--- A seat looks at the ticket that is served, and takes the value where it is its own.
+-- A seat looks at the ticket that is served, and takes the value if it is its own.
 use Rattle.std.proofs.Common.{◌≡◌, ℕ, ◌≤◌, get_or, set, List, [], ◌∷◌, refl, sym, ap, ◌∙◌, subst, true, false, true≢false, arith}
 use mathlib.Core.Option.{none, some, some-injective}
 use mathlib.Core.Option as maybe

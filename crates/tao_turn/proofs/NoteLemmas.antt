@@ -1,8 +1,8 @@
--- What one more note is.
-use Rattle.std.proofs.Common.{◌≡◌, ℕ, ◌+◌, List, [], ◌∷◌, ◌++◌, length, refl, sym, ap, ◌∙◌, subst, true, arith, append-nil, length-append}
+-- One more note, or none.
+use Rattle.std.proofs.Common.{◌≡◌, ℕ, ◌+◌, List, [], ◌∷◌, ◌++◌, length, refl, sym, ap, ◌∙◌, subst, true, arith, length-append}
 use Rattle.std.specs.Prelude.{Some, max}
 use Rattle.std.proofs.lemmas.Option.{same_Some}
-use Rattle.tao_turn.specs.Lists.{Begins, has}
+use Rattle.tao_turn.specs.Lists.{has}
 use Rattle.tao_turn.specs.Histories.{OwnMade}
 use Rattle.tao_turn.specs.Notes.{greatest, made_by}
 
@@ -24,9 +24,3 @@ own_note xs by mark shares mine i k lo hi made =
 
 pub no_note : (xs : List (ℕ × ℕ)) (shares : List ℕ) → OwnMade made_by xs (length xs) shares
 no_note xs shares i k lo hi made = absurd (omega arith)
-
-pub begins_more : (xs ys : List (ℕ × ℕ)) → Begins xs (xs ++ ys)
-begins_more xs ys = (ys, refl)
-
-pub begins_same : (xs : List (ℕ × ℕ)) → Begins xs xs
-begins_same xs = ([], append-nil xs)

@@ -1,4 +1,4 @@
--- Which numbers stand in a list, and which entries are made under them.
+-- Which numbers a list has, and which entries are made under them.
 use Rattle.std.proofs.Common.{◌≡◌, ◌≢◌, ℕ, zero, suc, ◌+◌, ◌<◌, ◌≤◌, eqb, List, [], ◌∷◌, ◌++◌, length, refl, sym, ap, ◌∙◌, true, false, true≢false, Bool, arith, eq-eqb, ne_eqb, inl, inr, ◌⊎◌}
 use mathlib.Core.Logic.{dite}
 use native.Mathlib.Decide.{dec_le, ℕ_discrete}
@@ -114,7 +114,7 @@ module _ {E : Type 0} (maker : List E → ℕ → Option ℕ) where
   none_of_both l n m p ss ts a b le le' i k lo hi made = has_merged k ss ts ∙ or_false (has k ss) (has k ts) (a i k (omega arith) hi made) (b i k (omega arith) hi made)
 
   module _ (stays : (xs ys : List E) (i : ℕ) → i < length xs → maker (xs ++ ys) i ≡ maker xs i) where
-    -- nobody made an entry under these shares in a beginning of the list either
+    -- nobody made an entry under these shares in a prefix of the list either
     pub none_before : (front l : List E) (n : ℕ) (ss : List ℕ) → Begins front l → NoneMade maker l n ss → NoneMade maker front n ss
     none_before front l n ss b a i k lo hi made = let le = begins_length front l b in
         a i k lo (omega arith) (ap (λ (z : List E). maker z i) (sym b.1) ∙ (stays front b.0 i hi ∙ made))
@@ -126,7 +126,7 @@ module _ {E : Type 0} (maker : List E → ℕ → Option ℕ) where
         (λ late. apart k (own i k late hi made))
         (λ early. let near : i < length found = omega arith in before i k lo near (sym (ap (λ (l : List E). maker l i) (sym longer.1) ∙ stays found longer.0 i near) ∙ made))
 
--- a number is put in after those that are less
+-- a number is inserted after those that are less
 rises_with : (lo n m : ℕ) (ms more : List ℕ) → lo ≤ m → lo ≤ n → RisesFrom m ms → (m ≤ n → RisesFrom m more) → (b : Bool) → nat_lt m n ≡ b → RisesFrom lo (if b then m ∷ more else n ∷ m ∷ ms)
 rises_with lo n m ms more below_m below_n rest moved true is = (below_m, moved (grind (arith, nat_tests)))
 rises_with lo n m ms more below_m below_n rest moved false is = (below_n, (grind (arith, nat_tests), rest))

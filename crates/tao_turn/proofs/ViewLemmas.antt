@@ -1,4 +1,4 @@
--- The views of all seats where one of them changes.
+-- The views of all seats when one of them changes.
 use Rattle.std.proofs.Common.{◌≡◌, ◌≢◌, ℕ, zero, suc, eqb, List, [], ◌∷◌, ◌++◌, length, set, refl, sym, ap, ◌∙◌, subst, true, false, true≢false, Bool, ⊎_elim, eq-eqb, ne_eqb, inl, inr, ◌⊎◌}
 use mathlib.Core.Option.{some, some-injective, some-ne-none}
 use mathlib.Core.Logic.{dite}

@@ -45,6 +45,6 @@ module _ {E : Type 0} where
       pub others : NoneMade maker list (length k.seen) k.shares
       pub mark : k.told ≤ mark_of list
 
-    -- what one pass has seen begins what the other has seen, and no entry of the rest was made under its shares; or the other way round
+    -- what one pass has seen is a prefix of what the other has seen, and the rest wasn't made under its shares; or the other way round
     abbrev pub AreOfOne : Knowledge E → Knowledge E → Type 0
     AreOfOne k m = (Begins k.seen m.seen × NoneMade maker m.seen (length k.seen) k.shares) ⊎ (Begins m.seen k.seen × NoneMade maker k.seen (length m.seen) m.shares)

@@ -1,11 +1,11 @@
--- Lists of numbers, and beginnings of lists.
+-- Lists of numbers, and prefixes of lists.
 use Rattle.std.specs.Prelude.{◌≡◌, ℕ, List, [], ◌∷◌, ◌++◌, length, Bool, true, false, ◌==◌, ◌||◌, if◌then◌else◌, nat_lt, ◌≤◌, ⊤}
 
--- the second list goes on from the first
+-- the first list is a prefix of the second
 abbrev pub Begins : {E : Type 0} → List E → List E → Type 0
 Begins {E} xs ys = (rest : List E) × (xs ++ rest ≡ ys)
 
--- of two lists, one of which begins the other, the longer one
+-- the longer of two lists, one of which is a prefix of the other
 abbrev pub longer : {E : Type 0} → List E → List E → List E
 longer xs ys = if nat_lt (length xs) (length ys) then ys else xs
 
@@ -14,7 +14,7 @@ abbrev pub is_empty : {A : Type 0} → List A → Bool
 is_empty [] = true
 is_empty (x ∷ xs) = false
 
--- the number stands in the list
+-- the list has the number
 abbrev pub has : ℕ → List ℕ → Bool
 has n [] = false
 has n (m ∷ ms) = (n == m) || has n ms
@@ -24,12 +24,12 @@ abbrev pub removed : ℕ → List ℕ → List ℕ
 removed n [] = []
 removed n (m ∷ ms) = if n == m then removed n ms else m ∷ removed n ms
 
--- the number put in before the first that is greater
+-- the number inserted before the first that is greater
 abbrev pub put_in : ℕ → List ℕ → List ℕ
 put_in n [] = n ∷ []
 put_in n (m ∷ ms) = if nat_lt m n then m ∷ put_in n ms else n ∷ m ∷ ms
 
--- the numbers of both lists, rising where the second rises
+-- the numbers of both lists, rising if the second rises
 abbrev pub merged : List ℕ → List ℕ → List ℕ
 merged [] ns = ns
 merged (m ∷ ms) ns = put_in m (merged ms ns)

@@ -8,7 +8,7 @@ abbrev pub greatest : List (ℕ × ℕ) → ℕ
 greatest [] = 0
 greatest (n ∷ ns) = max n.1 (greatest ns)
 
--- under which share the note at a position was made
+-- the share under which the note at a position was made
 abbrev pub made_by : List (ℕ × ℕ) → ℕ → Option ℕ
 made_by [] i = None
 made_by (n ∷ ns) zero = Some n.0

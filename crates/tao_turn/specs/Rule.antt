@@ -30,7 +30,7 @@ module _ {T E : Type 0} (entries : T → List E) where
   IsOut (home x) j found = true ≡ false
   IsOut (out k other) j found = (k ≡ j) × (other ≡ found)
 
-  -- a seat's ticket is not yet served and no other seat's, and only the seat that is served holds the value
+  -- a seat's ticket is not yet served and is no other seat's; only the seat that is served holds the value
   pub record IsQueued (serving next : ℕ) (place : Place T E) (drawer : ℕ → ℕ) (j : ℕ) (stage : Stage E) : Type 0 where
     pub ticket : (t : ℕ) → ticket_in stage ≡ Some t → (serving ≤ t) × (t < next) × (drawer t ≡ j)
     pub held : is_holder stage ≡ true → (ticket_in stage ≡ Some serving) × IsOut place j (list_found stage)
@@ -41,12 +41,13 @@ pub record OwnsShares (seats : ℕ) (owner : ℕ → ℕ) (j : ℕ) (live : Bool
   pub some_share : live ≡ true → is_empty numbers ≡ false
 
 module _ {E : Type 0} where
-  -- a seat that isn't joined away has seen a beginning of the list, and nobody else made an entry under its shares
+  -- a seat that isn't joined away has seen a prefix of the list, and nobody else made an entry under its shares
   pub record HasSeen (maker : List E → ℕ → Option ℕ) (list : List E) (live : Bool) (k : Knowledge E) : Type 0 where
     pub seen : live ≡ true → Begins k.seen list
     pub others : live ≡ true → NoneMade maker list (length k.seen) k.shares
 
-  -- what a seat published and glanced is no more than the mark, and the mark of what it has seen is published, except between the return of the value and its publishing
+  -- What a seat published and glanced is at most the mark. The mark of what it has seen is published, except between the return of the
+  -- value and its publishing.
   pub record IsMarked (mark_of : List E → ℕ) (mark : ℕ) (settled : Bool) (published : ℕ) (k : Knowledge E) : Type 0 where
     pub glanced : k.told ≤ mark
     pub within : published ≤ mark

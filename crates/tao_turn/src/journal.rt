@@ -10,7 +10,7 @@ pub trait Journal: Drop {
 
     ghost mark_of: { List Self.Entry → ℕ };
 
-    // Under which share the entry at a position was made, or that nobody made it.
+    // The share under which the entry at a position was made, or None.
     ghost maker: { List Self.Entry → ℕ → Option ℕ };
 
     /// The mark of the list.

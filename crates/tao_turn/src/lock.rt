@@ -1,4 +1,4 @@
-//! How a turn lock is made, and how it is taken apart.
+//! Makes a turn lock, and takes it apart.
 ghost use Rattle.std.specs.Prelude.{◌≡◌, ◌<◌, [], ◌∷◌, Some, IfOk, IfErr, IsOkAnd};
 ghost use Rattle.std.specs.List.{range_with_len};
 ghost use Rattle.tao_turn.specs.Histories.{newcomer, HasAll, MayFind};
@@ -20,7 +20,7 @@ pub struct TurnLock<T: Journal> {
     ghost slots: { table.shared.table_id.slots ≡ 1 },
 }
 
-/// A turn was never left, so the value is gone: the next ticket, and the one that is served.
+/// A turn was never left, so the value is lost: the next ticket, and the one that is served.
 #[derive(Debug, Drop)]
 pub struct LeftOut {
     pub ticket: u64,
@@ -30,7 +30,7 @@ pub struct LeftOut {
 impl<T: Journal> TurnLock<T> {
     ghost use Rattle.tao_turn.specs.Passes.{IsPassOf, seats_of, known};
 
-    /// A lock whose shares are the numbers below `seats`, and the pass that has them all. Without memory the value comes back.
+    /// A lock whose shares are the numbers below `seats`, and the pass that has them all. If memory runs out, the value comes back.
     pub fn new(
         alloc: Global,
         value: T,

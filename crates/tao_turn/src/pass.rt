@@ -13,7 +13,7 @@ pub struct TurnPass<E> {
     ghost idle: { are_idle badge.views ≡ true },
 }
 
-/// A turn: the value is out of the lock until `leave`. Where it is dropped or forgotten, the lock never serves another ticket.
+/// A turn: the value is out of the lock until `leave`. If it is dropped or forgotten, the lock never serves another ticket.
 #[derive(Drop)]
 pub struct Held<T: Journal> {
     pub(crate) value: T,

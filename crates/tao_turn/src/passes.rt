@@ -1,4 +1,4 @@
-//! What is done with passes outside of turns: shares are split off and joined, and the mark is read.
+//! What passes do outside of turns: split off and join shares, and read the mark.
 ghost use Rattle.std.specs.Prelude.{◌≡◌, ◌≤◌, true, false};
 ghost use Rattle.tao_turn.specs.Histories.{without, only, joined, AreOfOne};
 ghost use Rattle.tao_turn.specs.Lists.{has, removed, is_empty};
@@ -30,7 +30,7 @@ impl<T: Journal> TurnLock<T> {
         mark
     }
 
-    /// Moves a share to a pass of its own. Another one has to stay.
+    /// Moves a share to a pass of its own. At least one other has to stay.
     pub fn split(&self, pass: &mut TurnPass<T::Entry>, share: u32) -> TurnPass<T::Entry>
         requires pass { IsPassOf self.now pass.old }
         requires share { has share (known pass.old).shares ≡ true }

@@ -15,7 +15,7 @@ impl<T, E> Play<Option<T>, View<E>> for Draw {
     ghost then = { Drew };
 }
 
-/// The ticket served is looked at, and the value is taken where it is one's own.
+/// The served ticket is read, and the value is taken if the ticket is one's own.
 pub struct Look<T> {
     marker: PhantomData<T>,
 }
@@ -40,7 +40,7 @@ impl<T, E> Play<Option<T>, View<E>> for Publish {
     ghost then = { Published };
 }
 
-/// The mark is looked at.
+/// The mark is read.
 pub struct Glance<T> {
     marker: PhantomData<T>,
 }

@@ -57,7 +57,7 @@ impl<T: Journal> TurnLock<T> {
         }
     }
 
-    // Draws a ticket. The greatest number is never one, so that tickets don't wrap.
+    // Draws a ticket. The maximum is never drawn, so that tickets don't wrap.
     fn draw<R: Wait>(&self, rt: &R, seat: &mut Seat<Option<T>, View<T::Entry>>) -> u64
         requires seat { (seat.old.table_id ≡ self.now.table.shared.table_id) × (seat.old.me.1 ≡ []) }
         requires idle { seat.old.me.0.stage ≡ Idle }

@@ -1,4 +1,4 @@
-//! What a pass knows, and the stages of a turn. No value of these types is made.
+//! What a pass knows, and the stages of a turn. These types are for the proofs alone.
 
 use std::collections::LinkedList;
 
