@@ -1,9 +1,11 @@
 pub mod Cleaned
 pub mod Current
 pub mod Fetched
+pub mod LastLeaves
 pub mod Looks
 pub mod MovedCopies
 pub mod OneEntry
 pub mod Opened
 pub mod Seen
+pub mod TouchedPaths
 pub mod WrittenBack

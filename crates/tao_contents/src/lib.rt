@@ -8,6 +8,8 @@ mod fetches;
 mod final_look;
 mod moves;
 mod openings;
+mod touched_nodes;
+mod worked_trees;
 mod write_backs;
 
 pub use clean::{
@@ -22,6 +24,8 @@ pub use moves::{
     put_may_be_evicted,
 };
 pub use openings::{load_writes_fresh, opening_is_fresh};
+pub use touched_nodes::fetch_touches_path;
+pub use worked_trees::trees_are_told;
 pub use write_backs::{
     acknowledgement_keeps, fresh_writes_count, issue_keeps, write_back_is_fresh,
 };
