@@ -46,6 +46,7 @@ impl Sequence {
     }
 
     /// How many arrivals, from the first on, are all done once this one is too.
+    #[tactic(auto, using(crate::proofs::Flags::released_further, crate::proofs::Flags::released_no_further))]
     pub fn released_after(&self, arrival: u64) -> u64
         requires { arrival < length self.now }
         ensures { IsReleased (slice_set self.now arrival true) result }
