@@ -7,5 +7,4 @@ pub mod PlacedLists
 mod RankedCopies
 mod RisingLists
 mod SharedPaths
-mod SortedKeys
 mod WholePasses

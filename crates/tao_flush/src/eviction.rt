@@ -25,9 +25,10 @@ pub fn flush(p: &Params, leaf: u32, path: &mut [Entries], stash: &mut Stash, pos
     ensures stash { IsStash p.now stash.new.entries }
     ensures entries { All (AreNodeEntries p.now) path.new }
 {
-    let blocks = p.n();
+    // a reader tells that the parameters are within their limits
+    let _within = p.n();
     let count = gather_path(stash.alloc, &mut stash.entries, path, &mut stash.copies);
-    rank_copies(blocks / 2, count, &stash.copies, &mut stash.keys);
+    rank_copies(count, &stash.copies, &mut stash.keys);
     place_copies(
         stash.alloc,
         p,

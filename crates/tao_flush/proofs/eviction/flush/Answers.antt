@@ -6,7 +6,7 @@ use Rattle.tao_flush.specs.Placing.{lists_on, all_placed}
 use Rattle.tao_flush.specs.Ranking.{chosen}
 use Rattle.tao_flush.specs.State.{leaf_in}
 use Rattle.tao_flush.proofs.Evicted.{evicts, stash_fits, nodes_fit}
-use Rattle.tao_flush.proofs.GatheredCopies.{joined_ids, chosen_gathered, gathered_keeps, written_back, blocks_few, copies_fit, copies_few}
+use Rattle.tao_flush.proofs.GatheredCopies.{joined_ids, chosen_gathered, gathered_keeps, written_back, copies_fit, copies_few}
 use Rattle.tao_flush.proofs.eviction.flush.Goals as goal
 
 pub gather_path-count-requires-clause-room : goal.gather_path-count-requires-clause-room
@@ -19,22 +19,15 @@ gather_path-count-requires-clause-room c =
 pub rank_copies-requires : goal.rank_copies-requires
 rank_copies-requires c =
     let p_is = ap (λ s. s.shape) c.stash.view_is ∙ c.requires.stash in
-    let is = subst (λ s. IsStash s c.stash.inside.entries.items) p_is c.stash.invariant.1 in
     let len = c.deref_mut.ensures.len in
     let kept = c.gather_path-count.ensures.len in
     let most = c.gather_path-count.ensures.most in
     let copies = c.deref.ensures.value ∙ written_back c.gather_path-count.new.copies _ c.stash.inside.copies.len (omega (arith, kept, len)) in
-    let few = copies_few c.stash.inside.p c.args.p.now c.stash.inside.entries.items (length c.args.path.now) p_is c.stash.invariant.1 c.n-blocks.ensures.shape c.requires.path in
+    let few = copies_few c.stash.inside.p c.args.p.now c.stash.inside.entries.items (length c.args.path.now) p_is c.stash.invariant.1 c.n-within.ensures.shape c.requires.path in
     let fit = copies_fit c.stash.inside.p c.args.p.now c.stash.inside.entries.items (length c.args.path.now) (vec_len c.stash.inside.keys) p_is c.stash.invariant.1 c.stash.invariant.4 c.requires.path in
     let keys = c.deref_mut-2.ensures.len in record {
       count = let fits = c.gather_path-count.ensures.fits in let same = ap length copies in omega (arith, fits, same);
       few = omega (arith, few, most);
-      ids = λ k d h.
-          let ids : All (λ e. e.id < c.args.p.now.n) (take c.gather_path-count.result c.deref.result.now) =
-          subst (All (λ e. e.id < c.args.p.now.n)) (sym (ap (take c.gather_path-count.result) copies ∙ c.gather_path-count.ensures.copies)) (joined_ids c.args.p.now c.stash.inside.entries.items c.args.path.now is c.requires.entries) in
-          let below = ids k d h in
-          let blocks = blocks_few c.args.p.now c.n-blocks.ensures.shape in
-          omega (arith, below, blocks);
       room = omega (arith, fit, most, keys);
     }
 
