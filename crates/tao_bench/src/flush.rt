@@ -50,7 +50,7 @@ pub(crate) fn checksum(
     Ok(entries_of(nodes.as_slice()))
 }
 
-// A number that looks like chance, for each number.
+// A cheap hash of a number.
 fn mixed(number: u32) -> u32 {
     let mut word = number.wrapping_add(1).wrapping_mul(0x9e37_79b1);
     word ^= word >> 15;

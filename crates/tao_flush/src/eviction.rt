@@ -1,11 +1,12 @@
-//! The eviction along a path.
+//! The eviction of Path ORAM. It is fast since a block moves by its handle alone, with no copy of its bytes, and what is sorted are keys of
+//! 64 bits.
 ghost use Rattle.std.specs.Prelude.{◌≡◌, ◌+◌, ◌^◌, ◌<◌, length, All};
 ghost use Rattle.tao_flush.specs.Blocks.{IsStash, AreNodeEntries};
 ghost use Rattle.tao_flush.specs.Paths.{Evicts};
 ghost use Rattle.tao_flush.specs.State.{leaf_in};
 
 use crate::gathering::gather_path;
-use crate::placing::place_copies;
+use crate::placing::Eviction;
 use crate::positions::Positions;
 use crate::ranking::rank_copies;
 use crate::stash::Stash;
@@ -25,19 +26,16 @@ pub fn flush(p: &Params, leaf: u32, path: &mut [Entries], stash: &mut Stash, pos
     ensures stash { IsStash p.now stash.new.entries }
     ensures entries { All (AreNodeEntries p.now) path.new }
 {
-    // a reader tells that the parameters are within their limits
+    // tells the prover that the parameters are within their limits
     let _within = p.n();
     let count = gather_path(stash.alloc, &mut stash.entries, path, &mut stash.copies);
     rank_copies(count, &stash.copies, &mut stash.keys);
-    place_copies(
-        stash.alloc,
-        p,
+    let eviction = Eviction {
+        alloc: stash.alloc,
+        p: *p,
         leaf,
-        path,
-        count,
-        &mut stash.copies,
-        &stash.keys[..count],
-        &mut stash.entries,
         positions,
-    );
+    };
+    let keys = &stash.keys[..count];
+    eviction.place_copies(path, count, &mut stash.copies, keys, &mut stash.entries);
 }

@@ -12,99 +12,69 @@ use crate::ranking::{id_of_key, place_of_key};
 use std::alloc::Global;
 use tao_base::{Entries, Entry, Params};
 
-/// Puts the first copy of each block into the empty nodes of the path to a leaf, in the order of the keys, which are those of the first
-/// copies, as many as `count`. What finds no room goes to the list of the rest.
-// a function of its own, so that its loops have all registers
-#[inline(never)]
-pub(crate) fn place_copies(
-    alloc: Global,
-    p: &Params,
-    leaf: u32,
-    path: &mut [Entries],
-    count: usize,
-    copies: &mut [Entry],
-    keys: &[u64],
-    rest: &mut Vec<Entry>,
-    positions: &Positions,
-)
-    requires leaf { leaf < 2 ^ p.now.l }
-    requires positions { positions.now.shape ≡ p.now }
-    requires count { count ≤ length copies.old }
-    requires ids { All (λ entry. entry.id < p.now.n) (take count copies.old) }
-    requires path { length path.old ≡ p.now.l + 1 }
-    requires emptied { All (λ list. list ≡ []) path.old }
-    requires ranked { IsRanked copies.old count keys.now }
-    requires none { rest.old.items ≡ [] }
-    requires room { length keys.now ≤ vec_capacity rest.old }
-    ensures path { path.new ≡ lists_on p.now.l leaf (all_placed p.now leaf (leaf_in positions.now) (chosen copies.old 0 keys.now)) }
-    ensures rest { rest.new.items ≡ all_placed p.now leaf (leaf_in positions.now) (chosen copies.old 0 keys.now) 0 }
-    ensures capacity { vec_capacity rest.old ≤ vec_capacity rest.new }
-{
-    // a reader tells that the number of blocks fits 32 bits
-    let _count = p.n();
-    // a copy of its own, which no write can change
-    let p = *p;
-    let mut low = 0;
-    for i in 0..keys.len() {
-        let id = id_of_key(keys[i]);
-        let place = place_of_key(keys[i]);
-        if low <= id {
-            low = id + 1;
-            place_entry(
-                alloc,
-                &p,
-                leaf,
-                path,
-                rest,
-                id,
-                &mut copies[place],
-                positions,
-            );
-        } else {
-            // a later copy
-            take(alloc, &mut copies[place]);
+/// What an eviction places by: the parameters, the leaf of its path, and the positions of the blocks.
+#[derive(Clone, Copy)]
+pub(crate) struct Eviction<'a> {
+    pub(crate) alloc: Global,
+    pub(crate) p: Params,
+    pub(crate) leaf: u32,
+    pub(crate) positions: &'a Positions,
+}
+
+impl Eviction<'_> {
+    /// Puts the first copy of each block into the empty nodes of the path, in the order of the keys, which are those of the first copies,
+    /// as many as `count`. What finds no room goes to the list of the rest.
+    pub(crate) fn place_copies(
+        &self,
+        path: &mut [Entries],
+        count: usize,
+        copies: &mut [Entry],
+        keys: &[u64],
+        rest: &mut Vec<Entry>,
+    )
+        requires leaf { self.now.leaf < 2 ^ self.now.p.l }
+        requires positions { self.now.positions.now.shape ≡ self.now.p }
+        requires count { count ≤ length copies.old }
+        requires ids { All (λ entry. entry.id < self.now.p.n) (take count copies.old) }
+        requires path { length path.old ≡ self.now.p.l + 1 }
+        requires emptied { All (λ list. list ≡ []) path.old }
+        requires ranked { IsRanked copies.old count keys.now }
+        requires none { rest.old.items ≡ [] }
+        requires room { length keys.now ≤ vec_capacity rest.old }
+        ensures path { path.new ≡ lists_on self.now.p.l self.now.leaf (all_placed self.now.p self.now.leaf (leaf_in self.now.positions.now) (chosen copies.old 0 keys.now)) }
+        ensures rest { rest.new.items ≡ all_placed self.now.p self.now.leaf (leaf_in self.now.positions.now) (chosen copies.old 0 keys.now) 0 }
+        ensures capacity { vec_capacity rest.old ≤ vec_capacity rest.new }
+    {
+        // tells the prover that the number of blocks fits 32 bits
+        let _count = self.p.n();
+        let mut low = 0;
+        for i in 0..keys.len() {
+            let id = id_of_key(keys[i]);
+            let copy = take(self.alloc, &mut copies[place_of_key(keys[i])]);
+            // later copies of a block are dropped
+            if low <= id {
+                low = id + 1;
+                self.place_entry(path, rest, copy);
+            }
         }
     }
-}
 
-// Takes the entry of this id to where it is to go: into a node, or behind the rest. The id is given, since the key tells it before the entry
-// is read.
-fn place_entry(
-    alloc: Global,
-    p: &Params,
-    leaf: u32,
-    path: &mut [Entries],
-    rest: &mut Vec<Entry>,
-    id: u32,
-    entry: &mut Entry,
-    positions: &Positions,
-)
-    requires leaf { leaf < 2 ^ p.now.l }
-    requires positions { positions.now.shape ≡ p.now }
-    requires id { id ≡ entry.old.id }
-    requires block { id < p.now.n }
-    requires path { length path.old ≡ p.now.l + 1 }
-    requires room { vec_len rest.old < vec_capacity rest.old }
-    ensures placed { PlacesNext p.now leaf (leaf_in positions.now) path.old rest.old.items entry.old path.new rest.new.items }
-    ensures most { vec_len rest.new ≤ vec_len rest.old + 1 }
-    ensures capacity { vec_capacity rest.old ≤ vec_capacity rest.new }
-{
-    match deepest_with_room(p, leaf, positions.leaf_at_height(p.l(), id), path) {
-        Some(depth) => push_within(&mut path[depth as usize], take(alloc, entry)),
-        None => push_rest(rest, take(alloc, entry)),
-    }
-}
-
-/// Adds an entry to the rest, which has room.
-pub(crate) fn push_rest(rest: &mut Vec<Entry>, entry: Entry)
-    requires { vec_len rest.old < vec_capacity rest.old }
-    ensures items { rest.new.items ≡ rest.old.items ++ entry ∷ [] }
-    ensures len { vec_len rest.new ≡ vec_len rest.old + 1 }
-    ensures capacity { vec_capacity rest.old ≤ vec_capacity rest.new }
-{
-    match rest.push(entry) {
-        Ok(()) => {}
-        Err(_) => unreachable!(),
+    // Puts an entry where it is to go: into a node, or behind the rest.
+    fn place_entry(&self, path: &mut [Entries], rest: &mut Vec<Entry>, entry: Entry)
+        requires leaf { self.now.leaf < 2 ^ self.now.p.l }
+        requires positions { self.now.positions.now.shape ≡ self.now.p }
+        requires block { entry.id < self.now.p.n }
+        requires path { length path.old ≡ self.now.p.l + 1 }
+        requires room { vec_len rest.old < vec_capacity rest.old }
+        ensures placed { PlacesNext self.now.p self.now.leaf (leaf_in self.now.positions.now) path.old rest.old.items entry path.new rest.new.items }
+        ensures most { vec_len rest.new ≤ vec_len rest.old + 1 }
+        ensures capacity { vec_capacity rest.old ≤ vec_capacity rest.new }
+    {
+        let own = self.positions.leaf(entry.id);
+        match deepest_with_room(&self.p, self.leaf, own, path) {
+            Some(depth) => push_within(&mut path[depth as usize], entry),
+            None => push_rest(rest, entry),
+        }
     }
 }
 
@@ -137,6 +107,19 @@ fn shared_depth(p: &Params, leaf: u32, other: u32) -> u32
     ensures shared { AreShared p.now.l leaf other result }
 {
     p.l() - (32 - (other ^ leaf).leading_zeros())
+}
+
+/// Adds an entry to the rest, which has room.
+pub(crate) fn push_rest(rest: &mut Vec<Entry>, entry: Entry)
+    requires { vec_len rest.old < vec_capacity rest.old }
+    ensures items { rest.new.items ≡ rest.old.items ++ entry ∷ [] }
+    ensures len { vec_len rest.new ≡ vec_len rest.old + 1 }
+    ensures capacity { vec_capacity rest.old ≤ vec_capacity rest.new }
+{
+    match rest.push(entry) {
+        Ok(()) => {}
+        Err(_) => unreachable!(),
+    }
 }
 
 /// Adds an entry to a node that has room.

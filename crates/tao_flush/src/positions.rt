@@ -32,7 +32,7 @@ impl Positions {
         requires { length words.now ≡ p.now.n }
         ensures { IfOk result (λ positions. positions ≡ record { shape = p.now; words = words.now }) }
     {
-        // a reader tells that the parameters are within their limits
+        // tells the prover that the parameters are within their limits
         let _within = p.l();
         Ok(Positions {
             p: *p,
@@ -47,17 +47,7 @@ impl Positions {
         ensures leaf { result < 2 ^ self.now.shape.l }
         ensures count { length self.now.words ≡ self.now.shape.n }
     {
-        self.leaf_at_height(self.p.l(), block)
-    }
-
-    // The same, by callers that have the height at hand.
-    pub(crate) fn leaf_at_height(&self, l: u32, block: u32) -> u32
-        requires height { l ≡ self.now.shape.l }
-        requires block { block < self.now.shape.n }
-        ensures value { result ≡ leaf_in self.now block }
-        ensures leaf { result < 2 ^ self.now.shape.l }
-    {
-        self.words[block as usize] % (1 << l)
+        self.words[block as usize] % (1 << self.p.l())
     }
 
     /// Gives the block another word.

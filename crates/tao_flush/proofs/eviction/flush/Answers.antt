@@ -58,8 +58,8 @@ place_copies-requires-clause-room c =
     let taken = length-take c.gather_path-count.result c.deref-2.result.now in
     omega (arith, fit, most, same, taken)
 
-pub slice_bounds-place_copies-end : goal.slice_bounds-place_copies-end
-slice_bounds-place_copies-end c =
+pub slice_bounds-keys-end : goal.slice_bounds-keys-end
+slice_bounds-keys-end c =
     let p_is = ap (λ s. s.shape) c.stash.view_is ∙ c.requires.stash in
     let fit = copies_fit c.stash.inside.p c.args.p.now c.stash.inside.entries.items (length c.args.path.now) (vec_len c.stash.inside.keys) p_is c.stash.invariant.1 c.stash.invariant.4 c.requires.path in
     let most = c.gather_path-count.ensures.most in
