@@ -86,8 +86,8 @@ impl Requests {
             kind,
             answer: settled,
         };
-        push_within(&mut self.requests, request);
-        push_within(&mut self.waits, Wait { next: None, room });
+        self.requests.push_reserved(request);
+        self.waits.push_reserved(Wait { next: None, room });
         kind
     }
 
@@ -139,19 +139,5 @@ impl Requests {
         ensures { option_copied result ≡ (request_at self.now.requests arrival).answer }
     {
         self.requests[arrival as usize].answer.as_ref()
-    }
-}
-
-fn push_within<T>(list: &mut Vec<T>, item: T)
-where
-    T: Drop,
-    requires { vec_len list.old < vec_capacity list.old }
-    ensures items { list.new.items ≡ list.old.items ++ item ∷ [] }
-    ensures len { vec_len list.new ≡ vec_len list.old + 1 }
-    ensures capacity { vec_capacity list.old ≤ vec_capacity list.new }
-{
-    match list.push(item) {
-        Ok(()) => {}
-        Err(_) => unreachable!(),
     }
 }

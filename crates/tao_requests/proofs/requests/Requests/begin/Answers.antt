@@ -30,12 +30,12 @@ invariant_of-self c =
     let room : is_pad_op op ≡ false → length c.first_answer-settled.result.1 ≡ s.p.b
     = λ on_block. ap length (c.first_answer-settled.ensures.room on_block) ∙ c.take_room-answer.ensures.room.answer in
     let base = kept_begun s.p op s.requests.items s.waits.items c.first_answer-settled.result.1 s.lasts.items c.self.invariant.0 fits room in
-    let requests = c.push_within.ensures.items ∙ ap (λ r. s.requests.items ++ r ∷ []) (same_request _ op _ (kind_entering s.lasts.items op) _ (first_answer op)
+    let requests = c.push_reserved.ensures.items ∙ ap (λ r. s.requests.items ++ r ∷ []) (same_request _ op _ (kind_entering s.lasts.items op) _ (first_answer op)
     c.copy_op.ensures (c.enter-kind.ensures.kind ∙ ap (λ lasts. kind_entering lasts op) c.deref_mut.ensures.value) c.first_answer-settled.ensures.answer) in
     let lasts = lent_whole s.lasts.len c.enter-kind.new.lasts s.lasts.items (sym c.deref_mut.ensures.len ∙ ap length c.deref_mut.ensures.value) (c.enter-kind.auto.lasts ∙ ap length c.deref_mut.ensures.value)
     ∙ (c.enter-kind.ensures.lasts ∙ (ap (λ l. lasts_entered l op c.args.arrival) c.deref_mut.ensures.value ∙ ap (λ n. lasts_entered s.lasts.items op n) next)) in
     let new_wait : Wait = record { next = None; room = c.first_answer-settled.result.1 } in
-    let waits = c.push_within-2.ensures.items ∙ ap (λ l. l ++ new_wait ∷ []) (lent_whole s.waits.len c.enter-kind.new.waits s.waits.items
+    let waits = c.push_reserved-2.ensures.items ∙ ap (λ l. l ++ new_wait ∷ []) (lent_whole s.waits.len c.enter-kind.new.waits s.waits.items
     (sym c.deref_mut-2.ensures.len ∙ ap length c.deref_mut-2.ensures.value) (c.enter-kind.auto.waits ∙ ap length c.deref_mut-2.ensures.value)
     ∙ (c.enter-kind.ensures.waits ∙ (ap (λ l. waits_entered c.deref_mut-2.result.now l op c.args.arrival) c.deref_mut.ensures.value
     ∙ (ap (λ l. waits_entered l s.lasts.items op c.args.arrival) c.deref_mut-2.ensures.value ∙ ap (λ n. waits_entered s.waits.items s.lasts.items op n) next)))) in
@@ -51,6 +51,6 @@ pub returns-clause-value : goal.returns-clause-value
 returns-clause-value c =
     let s = c.self.inside in
     let op = c.args.op.now in
-    let requests = c.push_within.ensures.items ∙ ap (λ r. s.requests.items ++ r ∷ []) (same_request _ op _ (kind_now s.requests.items op) _ (first_answer op)
+    let requests = c.push_reserved.ensures.items ∙ ap (λ r. s.requests.items ++ r ∷ []) (same_request _ op _ (kind_now s.requests.items op) _ (first_answer op)
     c.copy_op.ensures (c.enter-kind.ensures.kind ∙ (ap (λ lasts. kind_entering lasts op) c.deref_mut.ensures.value ∙ kind_is_now s.p op s.requests.items s.waits.items s.lasts.items c.self.invariant.0)) c.first_answer-settled.ensures.answer) in
     same_state s.p _ _ _ (vec_len s.rooms - 1) requests (let less = c.take_room-answer.ensures.len in omega arith) ∙ ap (λ (v : RequestsState). begun v op) c.self.view_is
