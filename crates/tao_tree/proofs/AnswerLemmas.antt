@@ -1,29 +1,15 @@
 -- What came, against the frame that was wanted.
-use Rattle.std.proofs.Common.{◌≡◌, ◌≢◌, ◌⊎◌, inl, inr, MatchBool, ℕ, ◌+◌, ◌-◌, ◌≤◌, ◌==◌, ◌&&◌, Bool, true, false, List, [], ◌∷◌, ◌++◌, length, take, drop, Option, refl, sym, ap, ap₂, ◌∙◌, subst, arith, append_assoc}
+use Rattle.std.proofs.Common.{◌≡◌, ◌≢◌, ◌⊎◌, inl, inr, MatchBool, ℕ, ◌+◌, ◌-◌, ◌≤◌, Bool, true, false, List, [], ◌∷◌, ◌++◌, length, take, drop, Option, refl, sym, ap, ap₂, ◌∙◌, subst, arith, append-nil}
 use Rattle.std.specs.Int.{w32, w64, to_be_bytes}
 use Rattle.std.specs.Io.KnownBytes.{Consumes}
-use Rattle.std.proofs.lemmas.Bool.{eqb-true, eq-eqb, false≢true}
+use Rattle.std.proofs.lemmas.Bool.{false≢true}
 use Rattle.std.proofs.lemmas.List.{take-append-drop}
-use Rattle.tao_bucket.specs.Reading.{same}
+use Rattle.tao_base.specs.Transfers.{same}
+use Rattle.tao_base.proofs.TransferLemmas.{same_true, same_self}
 use Rattle.tao_wire.specs.Frames.{frame, content}
 use Rattle.tao_wire.specs.declared.message.Message.{Message}
-use Rattle.tao_wire.specs.declared.message.Message.TheVariants.{Path, Store, Stored}
+use Rattle.tao_wire.specs.declared.message.Message.TheVariants.{Path, Stored}
 use Rattle.tao_tree.specs.Streams.{IsOtherLength, EndsWithin, IsOtherFrame, ConsumesOther, ConsumesWrong, AnswersFetch, AnswersStore}
-
-and_parts : (a b : Bool) → (a && b) ≡ true → (a ≡ true) × (b ≡ true)
-and_parts true true h = (refl, refl)
-and_parts true false h = (refl, h)
-and_parts false b h = absurd (false≢true h)
-
-pub same_true : (xs ys : List ℕ) → same xs ys ≡ true → xs ≡ ys
-same_true [] [] h = refl
-same_true [] (y ∷ ys) h = absurd (false≢true h)
-same_true (x ∷ xs) [] h = absurd (false≢true h)
-same_true (x ∷ xs) (y ∷ ys) h = let both = and_parts (x == y) (same xs ys) h in ap₂ (λ a b. a ∷ b) (eqb-true x y both.0) (same_true xs ys both.1)
-
-same_self : (xs : List ℕ) → same xs xs ≡ true
-same_self [] = refl
-same_self (x ∷ xs) = ap₂ (λ a b. a && b) (eq-eqb x x refl) (same_self xs)
 
 pub same_false : (xs ys : List ℕ) → same xs ys ≡ false → xs ≢ ys
 same_false xs ys h e = false≢true (sym h ∙ subst (λ zs. same xs zs ≡ true) e (same_self xs))
@@ -75,11 +61,15 @@ judged_stored old new version c false five h came = record {
   wrong = inr (inr (record { content = c; size = five; whole = ap (λ n. to_be_bytes w32 n ++ c) five; other = wrong_stored version c (same_false c (4 ∷ to_be_bytes w32 version) (sym h)) }));
 }
 
--- what stands before an image, and the image
-pub store_frame : (version : ℕ) (image : List ℕ) → (to_be_bytes w32 (length image + 5) ++ 3 ∷ to_be_bytes w32 version) ++ image ≡ frame (Store version image)
-store_frame version image =
-    let size : length image + 5 ≡ length (content (Store version image)) = omega arith in
-    append_assoc (to_be_bytes w32 (length image + 5)) (3 ∷ to_be_bytes w32 version) image ∙ ap (λ n. to_be_bytes w32 n ++ content (Store version image)) size
+-- the kind byte and the id of a path
+pub path_head_is : (id : ℕ) (head : List ℕ) → ((image : List ℕ) → head ++ image ≡ content (Path id image)) → head ≡ 2 ∷ to_be_bytes w64 id
+path_head_is id head says = sym (append-nil head) ∙ says []
+
+-- a wrong answer to a fetch of a path that has so many bytes
+pub wrong_path : (old new : Option (List ℕ)) (id content path : ℕ) → content ≡ 9 + path → ConsumesWrong old new (AnswersFetch id (content - 9)) content → ConsumesWrong old new (AnswersFetch id path) (9 + path)
+wrong_path old new id content path long wrong =
+    let rest : content - 9 ≡ path = omega arith in
+    subst (ConsumesWrong old new (AnswersFetch id path)) long (subst (λ n. ConsumesWrong old new (AnswersFetch id n) content) rest wrong)
 
 pub when_true : (b : Bool) (P Q : Type 0) → b ≡ true → MatchBool b P Q → P
 when_true true P Q e h = h

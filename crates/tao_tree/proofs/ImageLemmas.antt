@@ -11,7 +11,7 @@ use Rattle.tao_base.specs.Links.{IsSendable, header_node}
 use Rattle.tao_base.specs.Tree.{node_count}
 use Rattle.tao_base.specs.declared.storage.Order.{Order}
 use Rattle.tao_base.proofs.ImageLemmas.{header_within}
-use Rattle.tao_tree.specs.Nodes.{TreeState, applied, bucket_applied, holding, is_newer, version_at, IsWhole, reach_of}
+use Rattle.tao_tree.specs.Nodes.{TreeState, applied, bucket_applied, holding, is_newer, version_at, IsTreeImage, reach_of}
 
 -- a write leaves the parameters
 pub applied_shape : (tree : TreeState) (version node : ℕ) (bytes : List ℕ) → (applied tree version node bytes).shape ≡ tree.shape
@@ -31,7 +31,7 @@ applied_more version i n len node first tree new image bucket same before w part
     ∙ sym (ap (fold (bucket_applied version) first) (map-range_with_len_more (bucket_in len image) 0 i i (omega arith)) ∙ fold-append (bucket_applied version) first (map (bucket_in len image) (range_with_len 0 i)) (bucket_in len image i ∷ []))
 
 -- an order that may be sent is whole buckets of nodes of the tree
-pub sendable_whole : (s : Shape) (order : Order) (image : List ℕ) → image ≡ order.image → 8 ≤ bucket_len s → IsSendable (reach_of s) order → IsWhole s image
+pub sendable_whole : (s : Shape) (order : Order) (image : List ℕ) → image ≡ order.image → 8 ≤ bucket_len s → IsSendable (reach_of s) order → IsTreeImage s image
 sendable_whole s order image same h sendable =
     let len = bucket_len s in
     let size : length image ≡ length order.nodes * len = ap length same ∙ sendable.image in

@@ -1,4 +1,5 @@
 pub mod AnswerLemmas
+pub mod FailedCalls
 pub mod ImageLemmas
 pub mod NoteLemmas
 pub mod PathLemmas

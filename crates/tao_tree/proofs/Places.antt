@@ -23,10 +23,6 @@ held_in_at len bytes (v ∷ vs) (suc i) =
     held_in_at len (drop len bytes) vs i
     ∙ ap (λ b. held_of (take len b) (slice_index_or vs i None)) (drop-drop (i * len) len bytes ∙ ap (λ n. drop n bytes) (omega (arith, suc-mul i len)))
 
-pub length_held : (len : ℕ) (bytes : List ℕ) (vs : List (Option ℕ)) → length (held_in len bytes vs) ≡ length vs
-length_held len bytes [] = refl
-length_held len bytes (v ∷ vs) = ap suc (length_held len (drop len bytes) vs)
-
 -- the bytes that a node tells
 pub blank_at : (len : ℕ) (bytes : List ℕ) (vs : List (Option ℕ)) (i : ℕ) → i < length vs → AreBlank len bytes vs
     → take len (drop (i * len) bytes) ≡ bytes_of len (held_of (take len (drop (i * len) bytes)) (slice_index_or vs i None))

@@ -82,7 +82,7 @@ pub record IsLaidOut (s : Shape) (bytes : List ℕ) (versions : List (Option ℕ
   pub blank : AreBlank (bucket_len s) bytes versions
 
 -- an image is whole buckets of nodes of the tree
-pub record IsWhole (s : Shape) (image : List ℕ) : Type 0 where
+pub record IsTreeImage (s : Shape) (image : List ℕ) : Type 0 where
   pub whole : length image % bucket_len s ≡ 0
   pub low : (i : ℕ) → i < length image / bucket_len s → 1 ≤ header_node (bucket_in (bucket_len s) image i)
   pub high : (i : ℕ) → i < length image / bucket_len s → header_node (bucket_in (bucket_len s) image i) ≤ node_count s.l

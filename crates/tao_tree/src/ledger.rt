@@ -1,4 +1,4 @@
-//! What a link in memory tells, kept in room that was made beforehand.
+//! The log of a link in memory, which is preallocated.
 ghost use Rattle.std.specs.Prelude.{◌≡◌, ◌+◌, ◌-◌, ◌*◌, ◌<◌, ◌≤◌, ◌&&◌, [], ◌++◌, length, take, nat_lt, nat_le, vec_len, vec_capacity, max, OnOk, OnErr, All};
 ghost use Rattle.tao_base.specs.declared.links.Asked.TheVariants.{Fetch};
 ghost use Rattle.tao_base.specs.Links.{asked_of};
@@ -7,7 +7,7 @@ ghost use Rattle.tao_tree.specs.declared.ledger.Note.TheVariants.{Sent};
 
 use std::alloc::Global;
 use std::marker::Model;
-use tao_base::{Image, NoMemory, Order};
+use tao_base::{Image, NoMemory, Order, append_within};
 
 /// One call: a fetch, or a store with the numbers of its nodes and of its image's bytes.
 #[derive(Debug, Drop)]
@@ -24,8 +24,8 @@ pub(crate) enum Note {
     },
 }
 
-/// The calls, the paths that answered fetches and the versions of acknowledged stores, and room for more of them. The nodes and the
-/// images of all stores lie one behind another.
+/// A log: the calls, the paths that answered fetches and the versions of acknowledged stores, with capacity for more of them. The nodes
+/// and the images of all stores lie one behind another.
 #[derive(Debug, Drop)]
 pub(crate) struct Ledger {
     path_len: usize,
@@ -63,7 +63,7 @@ impl Model for Ledger {
 impl Ledger {
     ghost use Rattle.tao_tree.specs.Ledgers.{asked, answered, acknowledged, nothing};
 
-    /// Nothing is told yet, and there is no room.
+    /// An empty log without capacity.
     pub(crate) fn new(alloc: Global, path_len: usize, bucket_len: usize) -> Ledger
         ensures { result ≡ nothing path_len bucket_len }
     {
@@ -81,7 +81,7 @@ impl Ledger {
         }
     }
 
-    /// Makes room for so many more calls, and for so many more buckets of stores in all.
+    /// Preallocates so many more calls, and so many more buckets of stores in all.
     pub(crate) fn reserve(
         &mut self,
         alloc: Global,
@@ -105,7 +105,7 @@ impl Ledger {
         Ok(())
     }
 
-    /// Whether there is room for a call, and for so many buckets where it is a store.
+    /// Whether there is capacity for a call, and for so many buckets where it is a store.
     pub(crate) fn has_room(&self, buckets: usize) -> bool
         ensures { result ≡ (nat_lt 0 self.now.calls && nat_le buckets self.now.buckets) }
     {
@@ -201,18 +201,5 @@ fn take_filled(spare: &mut Vec<Image>, path: &[u8]) -> Image
             room
         }
         None => unreachable!(),
-    }
-}
-
-// Appends items for which there is room.
-fn append_within<T: Copy>(list: &mut Vec<T>, more: &[T])
-    requires { vec_len list.old + length more.now ≤ vec_capacity list.old }
-    ensures items { list.new.items ≡ list.old.items ++ more.now }
-    ensures len { vec_len list.new ≡ vec_len list.old + length more.now }
-    ensures capacity { vec_capacity list.old ≤ vec_capacity list.new }
-{
-    match list.extend_from_slice(more) {
-        Ok(()) => {}
-        Err(_) => unreachable!(),
     }
 }

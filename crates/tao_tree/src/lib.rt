@@ -1,6 +1,7 @@
 //! The tree that the server keeps, and the links that lead to it.
 #![tactic(auto)]
 
+mod answers;
 mod forgeries;
 mod laws;
 mod ledger;
@@ -10,7 +11,6 @@ mod shared;
 mod stream_link;
 #[cfg(test)]
 mod tests;
-mod transfers;
 mod tree;
 mod tree_link;
 

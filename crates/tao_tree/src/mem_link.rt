@@ -1,4 +1,4 @@
-//! A link in memory, which tells everything, fails where it is told to and alters answers where it is told to.
+//! A link in memory, which logs its calls, fails where it is told to and alters answers where it is told to.
 ghost use Rattle.std.specs.Prelude.{◌≡◌, ◌⊎◌, ◌+◌, ◌*◌, ◌^◌, ◌<◌, ◌↔◌, false, [], ◌∷◌, ◌++◌, length, Some, OnOk, OnErr, IsErr, IsTrue, Contains};
 ghost use Rattle.tao_base.specs.Causes.{HasCause};
 ghost use Rattle.tao_base.specs.Limits.{bucket_len};
@@ -13,9 +13,9 @@ use crate::shared::SharedTree;
 use std::alloc::Global;
 use std::marker::Model;
 use std::sync::Wait;
-use tao_base::{Failed, Items, Link, NoMemory, Numbers, Order};
+use tao_base::{Failed, Items, Link, NoMemory, Numbers, Order, is_listed};
 
-/// A link to a tree. What it tells is kept in room that `reserve` made: a call without room isn't told and fails.
+/// A link to a tree. Its log has the capacity that `reserve` made: a call beyond it isn't logged and fails.
 #[derive(Drop)]
 pub struct MemLink<'t> {
     alloc: Global,
@@ -51,7 +51,7 @@ impl<'t> Model for MemLink<'t> {
 impl<'t> MemLink<'t> {
     ghost use Rattle.tao_tree.specs.Forging.{new_link};
 
-    /// A link whose calls with the numbers in `fails`, counted from 0, fail. It has no room yet.
+    /// A link whose calls with the numbers in `fails`, counted from 0, fail. Its log has no capacity yet.
     pub fn new(alloc: Global, tree: &'t SharedTree, fails: Numbers) -> MemLink<'t>
         ensures { result ≡ new_link tree.now fails }
     {
@@ -69,7 +69,7 @@ impl<'t> MemLink<'t> {
         }
     }
 
-    /// Makes room for so many more calls, each with an answer of one path, and for so many more buckets of stores in all.
+    /// Preallocates the log of so many more calls, each with an answer of one path, and of so many more buckets of stores in all.
     pub fn reserve(&mut self, calls: usize, nodes: usize) -> Result<(), NoMemory>
         ensures ok { OnOk result (self.new ≡ record self.old { room = self.old.room + calls; buckets = self.old.buckets + nodes }) }
         ensures err { OnErr result (self.new ≡ self.old) }
@@ -149,11 +149,4 @@ impl<'t> Link for MemLink<'t> {
         self.ledger.add_store(order);
         Ok(())
     }
-}
-
-// Whether the number is one of the list.
-fn is_listed(numbers: &[u32], number: u64) -> bool
-    ensures { IsTrue result ↔ Contains numbers.now number }
-{
-    numbers.iter().any(|n| u64::from(*n) == number)
 }

@@ -1,7 +1,7 @@
 //! Whole paths that are read, and whole images that are applied.
 ghost use Rattle.std.specs.Prelude.{◌≡◌, ◌+◌, ◌*◌, ◌^◌, ◌<◌, length};
 ghost use Rattle.tao_base.specs.Limits.{bucket_len};
-ghost use Rattle.tao_tree.specs.Nodes.{path_bytes, IsWhole, all_applied};
+ghost use Rattle.tao_tree.specs.Nodes.{path_bytes, IsTreeImage, all_applied};
 
 use crate::tree::Tree;
 use tao_base::path_node;
@@ -23,7 +23,7 @@ pub(crate) fn read_path(tree: &Tree, leaf: u32, out: &mut [u8])
 
 /// Applies each bucket of the image at the node in its header, with this version and not the one in its header.
 pub(crate) fn apply_all(tree: &mut Tree, version: u32, image: &[u8])
-    requires { IsWhole tree.old.shape image.now }
+    requires { IsTreeImage tree.old.shape image.now }
     ensures { tree.new ≡ all_applied tree.old version image.now }
 {
     let len = tree.params().bucket_len() as usize;

@@ -26,7 +26,7 @@ impl Model for SharedTree {
 }
 
 impl SharedTree {
-    ghost use Rattle.tao_tree.specs.Nodes.{IsSomePath, IsWhole};
+    ghost use Rattle.tao_tree.specs.Nodes.{IsSomePath, IsTreeImage};
 
     /// Puts the tree behind a lock.
     pub fn new(tree: Tree) -> SharedTree
@@ -64,7 +64,7 @@ impl SharedTree {
 
     /// Applies each bucket of the image at the node in its header, with this version.
     pub fn store_all<R: Wait>(&self, rt: &R, version: u32, image: &[u8])
-        requires { IsWhole self.now image.now }
+        requires { IsTreeImage self.now image.now }
     {
         let mut tree = self.tree.lock(rt);
         if *tree.params() == self.p {

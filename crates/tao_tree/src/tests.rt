@@ -101,7 +101,7 @@ fn newest_version_stays(rt: HostRuntime) -> Result<(), Fail> {
     Ok(())
 }
 
-// the second call fails; there is room for no third one
+// the second call fails; the log has no capacity for a third one
 #[test]
 fn failing_fetches(rt: HostRuntime) -> Result<(), Fail> {
     let alloc = rt.alloc();
@@ -126,7 +126,7 @@ fn store<L: Link, R: Wait>(rt: &R, link: &mut L, order: &Order) -> Result<(), Fa
     link.store(rt, order)
 }
 
-// The second store has no room for its bucket, and the third one fails.
+// The log has no capacity for the second store's bucket, and the third store fails.
 fn check_stores<R: Abort + Wait>(rt: &R, alloc: Global, tree: &SharedTree) -> Result<(), Fail>
     requires { tree.now ≡ shape 1 1 4 1 1 One }
 {
@@ -185,7 +185,7 @@ fn joined(root: [u8; LEN], leaf: [u8; LEN]) -> [u8; 2 * LEN] {
     path
 }
 
-// Gives one byte a call, and tells nothing.
+// Gives one byte a call. Its bytes are unknown.
 #[derive(Drop)]
 struct SlowSource {
     inner: ByteSource,
@@ -203,7 +203,7 @@ impl Source for SlowSource {
     }
 }
 
-// Takes one byte a call, and tells nothing.
+// Takes one byte a call. Its bytes are unknown.
 #[derive(Drop)]
 struct SlowSink {
     inner: ByteSink,
@@ -306,6 +306,22 @@ fn stores_over_a_stream(rt: HostRuntime) -> Result<(), Fail> {
     assert_eq!(rt; sink.bytes().len(), 74);
     assert_eq!(rt; &sink.bytes()[..9], [0, 0, 0, 33, 3, 0, 0, 0, 2].as_slice());
     assert_eq!(rt; &sink.bytes()[9..37], bucket(1, 10).as_slice());
+    Ok(())
+}
+
+// a read that fails behind the length field, and then a write beyond the capacity
+#[test]
+fn halves_that_fail(rt: HostRuntime) -> Result<(), Fail> {
+    let alloc = rt.alloc();
+    let bytes = Image::from_slice(alloc, &answer_of(65, 2, 5))?;
+    let source = ByteSource::new(bytes, Numbers::from_slice(alloc, &[1])?);
+    let mut sink = ByteSink::new(alloc, Numbers::new(alloc));
+    sink.reserve(20)?;
+    let mut link = StreamLink::new(alloc, &small()?, source, sink)?;
+    assert_eq!(rt; fetch(&rt, &mut link), Err(Failed));
+    assert_eq!(rt; fetch(&rt, &mut link), Err(Failed));
+    let (_, sink) = link.into_parts();
+    assert_eq!(rt; sink.bytes().len(), 20);
     Ok(())
 }
 

@@ -9,7 +9,7 @@ use std::marker::Model;
 use tao_base::{NoMemory, Params};
 
 /// The buckets of all nodes, one behind another from node 1 on, and the version of each. A version is the one that a bucket came with, and
-/// not the one in its header. Only `new` takes memory.
+/// not the one in its header. Only `new` allocates.
 #[derive(Debug, Drop)]
 pub struct Tree {
     p: Params,

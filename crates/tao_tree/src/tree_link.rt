@@ -1,5 +1,5 @@
 //! A link within the proxy itself.
-ghost use Rattle.std.specs.Prelude.{◌≡◌, ◌+◌, ◌*◌, ◌^◌, ◌<◌, [], ◌∷◌, length, None, IsOk};
+ghost use Rattle.std.specs.Prelude.{◌≡◌, ◌+◌, ◌*◌, ◌^◌, ◌<◌, [], ◌∷◌, length, None, IsOk, OnErr};
 ghost use Rattle.tao_base.specs.Causes.{HasCause};
 ghost use Rattle.tao_base.specs.Limits.{bucket_len};
 ghost use Rattle.tao_base.specs.Links.{TellsMore, IsSendable, asked_of};
@@ -11,7 +11,7 @@ use std::marker::Model;
 use std::sync::Wait;
 use tao_base::{Failed, Link, Order};
 
-/// A link straight to a tree. It takes no memory, never fails and tells nothing.
+/// A link straight to a tree. It never fails, and logs nothing.
 #[derive(Drop)]
 pub struct TreeLink<'t> {
     tree: &'t SharedTree,
@@ -47,6 +47,7 @@ impl<'t> Link for TreeLink<'t> {
         ensures reach { reach_of self.new ≡ reach_of self.old }
         ensures shape { self.new ≡ self.old }
         ensures told { TellsMore None None (Fetch _id leaf) result (path.new ∷ []) [] }
+        ensures path_kept { OnErr result (path.new ≡ path.old) }
         ensures cause { HasCause 0 0 result }
         ensures ok { IsOk result }
         ensures path { IsSomePath self.old leaf path.new }

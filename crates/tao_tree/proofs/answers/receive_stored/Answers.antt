@@ -1,7 +1,7 @@
 use Rattle.std.proofs.Common.{ap, ◌∙◌}
-use Rattle.tao_bucket.specs.Reading.{same}
+use Rattle.tao_base.specs.Transfers.{same}
 use Rattle.tao_tree.proofs.AnswerLemmas.{judged_stored, when_true}
-use Rattle.tao_tree.proofs.stream_link.receive_stored.Goals as goal
+use Rattle.tao_tree.proofs.answers.receive_stored.Goals as goal
 
 pub returns-clause-came : goal.returns-clause-came
 returns-clause-came g c =
