@@ -3,7 +3,7 @@ use Rattle.std.proofs.Common.{◌≡◌, ◌≢◌, ℕ, suc, ◌+◌, ◌<◌, 
 use Rattle.std.specs.List.{flat_map}
 use Rattle.std.proofs.Math.Bool.{and_assoc}
 use Rattle.std.proofs.lemmas.Bool.{ne_eqb}
-use Rattle.tao_bucket.specs.Reading.{same}
+use Rattle.tao_base.specs.Transfers.{same}
 
 -- the front and the rest
 pub same_front : (xs ys us vs : List ℕ) → length us ≡ length xs → same (us ++ vs) (xs ++ ys) ≡ (same us xs && same vs ys)

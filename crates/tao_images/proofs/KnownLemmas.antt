@@ -10,7 +10,8 @@ use Rattle.tao_base.specs.Tree.{node_at, node_count}
 use Rattle.tao_base.specs.declared.storage.BucketFault.TheVariants.{Tag}
 use Rattle.tao_base.proofs.TreeLemmas.{one_le_node, node_high}
 use Rattle.tao_bucket.specs.Encoding.{format_of}
-use Rattle.tao_bucket.specs.Reading.{bucket_fault, first_of, read_bucket, same}
+use Rattle.tao_base.specs.Transfers.{same}
+use Rattle.tao_bucket.specs.Reading.{bucket_fault, first_of, read_bucket}
 use Rattle.tao_images.specs.declared.nodes.Refused.TheVariants.{Damaged}
 use Rattle.tao_images.specs.Nodes.{node_refusal, version_refusal, tag_refusal}
 use Rattle.tao_images.specs.Paths.{piece, refusal_at, path_refusal, read_at, buckets_read, IsKnownAlike}

@@ -10,8 +10,9 @@ use Rattle.tao_base.specs.declared.storage.Bucket.{Bucket}
 use Rattle.tao_base.specs.declared.storage.Order.{Order}
 use Rattle.tao_base.proofs.ImageLemmas.{length_joined, joined_from, bucket_joined}
 use Rattle.tao_bucket.specs.Encoding.{encoded, format_of, tag_of}
-use Rattle.tao_bucket.specs.Reading.{same}
-use Rattle.tao_bucket.proofs.Whole.{encoded_parts, tag_of_encoded, same_true, same_refl}
+use Rattle.tao_base.specs.Transfers.{same}
+use Rattle.tao_base.proofs.TransferLemmas.{same_true, same_self}
+use Rattle.tao_bucket.proofs.Whole.{encoded_parts, tag_of_encoded}
 use Rattle.tao_model.specs.Lawful.{IsInForm}
 use Rattle.tao_model.specs.Trace.{nodes_in}
 use Rattle.tao_images.specs.Orders.{IsOrderOf, FitsLinks, order_limit}
@@ -67,7 +68,7 @@ tags key s version nonce buckets order i bucket shape is forms two within here =
 
 module _ (key : List ℕ) (s : Shape) (v first : ℕ) (buckets : List Bucket) (order : Order) where
   pub other_nodes : false ≡ same order.nodes (nodes_in buckets) → IsTrue false ↔ IsOrderOf key s v first buckets order
-  other_nodes other = (λ no. absurd cc, λ is. other ∙ ap (λ nodes. same nodes (nodes_in buckets)) is.nodes ∙ same_refl (nodes_in buckets))
+  other_nodes other = (λ no. absurd cc, λ is. other ∙ ap (λ nodes. same nodes (nodes_in buckets)) is.nodes ∙ same_self (nodes_in buckets))
 
   pub by_image : (equal : Bool) → order.version ≡ v → order.nonce ≡ first → true ≡ same order.nodes (nodes_in buckets)
       → equal ≡ same order.image (flat_map (encoded key s (format_of s.form v)) buckets) → IsTrue equal ↔ IsOrderOf key s v first buckets order
@@ -78,5 +79,5 @@ module _ (key : List ℕ) (s : Shape) (v first : ℕ) (buckets : List Bucket) (o
       nodes = same_true order.nodes (nodes_in buckets) (sym nodes);
       image = same_true order.image (flat_map (encoded key s (format_of s.form v)) buckets) (sym image ∙ yes);
     },
-    λ is. image ∙ ap (λ bytes. same bytes (flat_map (encoded key s (format_of s.form v)) buckets)) is.image ∙ same_refl (flat_map (encoded key s (format_of s.form v)) buckets),
+    λ is. image ∙ ap (λ bytes. same bytes (flat_map (encoded key s (format_of s.form v)) buckets)) is.image ∙ same_self (flat_map (encoded key s (format_of s.form v)) buckets),
   )

@@ -12,7 +12,8 @@ use Rattle.tao_base.specs.declared.storage.BucketFault.{BucketFault}
 use Rattle.tao_base.specs.declared.storage.BucketFault.TheVariants.{Tag}
 use Rattle.tao_base.proofs.TreeLemmas.{one_le_node}
 use Rattle.tao_bucket.specs.Encoding.{format_of}
-use Rattle.tao_bucket.specs.Reading.{bucket_fault, header_version, read_bucket, same}
+use Rattle.tao_base.specs.Transfers.{same}
+use Rattle.tao_bucket.specs.Reading.{bucket_fault, header_version, read_bucket}
 use Rattle.tao_bucket.proofs.Firsts.{all_none}
 use Rattle.tao_bucket.proofs.Taken.{IsBytes, bytes_take, bytes_drop}
 use Rattle.tao_bucket.proofs.Whole.{encoding_taken}

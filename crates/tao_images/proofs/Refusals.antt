@@ -11,9 +11,11 @@ use Rattle.tao_base.specs.declared.storage.Bucket.{Bucket}
 use Rattle.tao_base.specs.declared.storage.BucketFault.{BucketFault}
 use Rattle.tao_base.specs.declared.storage.BucketFault.TheVariants.{Tag}
 use Rattle.tao_bucket.specs.Encoding.{Encodes, IsWritten, encoded, format_of, tag_of}
-use Rattle.tao_bucket.specs.Reading.{bucket_fault, first_of, header_version, read_bucket, same}
+use Rattle.tao_base.specs.Transfers.{same}
+use Rattle.tao_bucket.specs.Reading.{bucket_fault, first_of, header_version, read_bucket}
 use Rattle.tao_bucket.proofs.Firsts.{none_more}
-use Rattle.tao_bucket.proofs.Whole.{encoding_again, few_blocks, same_refl, same_true, tag_of_encoded, format_is_written}
+use Rattle.tao_base.proofs.TransferLemmas.{same_true, same_self}
+use Rattle.tao_bucket.proofs.Whole.{encoding_again, few_blocks, tag_of_encoded, format_is_written}
 use Rattle.tao_images.specs.declared.nodes.Refused.{Refused}
 use Rattle.tao_images.specs.declared.nodes.Refused.TheVariants.{Damaged, Stale}
 use Rattle.tao_images.specs.Nodes.{Holds, IsRefusalOf, node_refusal, version_refusal, tag_refusal}
@@ -37,7 +39,7 @@ tag_fits s format tag node bytes fits = either (eqb format 2) refl
     either : (two : Bool) → eqb format 2 ≡ two → (if two && not (same (drop (slots_len s.z s.b) bytes) tag) then Some (Damaged node Tag) else None) ≡ None
     either true e =
         ap (λ t. if not (same t tag) then Some (Damaged node Tag) else None) (fits (eqb-true format 2 e))
-        ∙ ap (λ t. if not t then Some (Damaged node Tag) else None) (same_refl tag)
+        ∙ ap (λ t. if not t then Some (Damaged node Tag) else None) (same_self tag)
     either false e = refl
 
 -- bytes that hold a bucket of the latest write are not refused

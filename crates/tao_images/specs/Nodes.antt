@@ -5,7 +5,8 @@ use Rattle.tao_base.specs.Limits.{Shape, slots_len}
 use Rattle.tao_base.specs.declared.storage.Bucket.{Bucket}
 use Rattle.tao_base.specs.declared.storage.BucketFault.TheVariants.{Tag}
 use Rattle.tao_bucket.specs.Encoding.{Encodes, format_of, tag_of}
-use Rattle.tao_bucket.specs.Reading.{bucket_fault, header_version, same}
+use Rattle.tao_base.specs.Transfers.{same}
+use Rattle.tao_bucket.specs.Reading.{bucket_fault, header_version}
 use Rattle.tao_images.specs.declared.nodes.Refused.{Refused}
 use Rattle.tao_images.specs.declared.nodes.Refused.TheVariants.{Damaged, Stale}
 

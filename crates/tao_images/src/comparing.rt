@@ -2,14 +2,14 @@
 ghost use Rattle.std.specs.Prelude.{◌≡◌, ◌↔◌, ◌≤◌, length, All, IsTrue};
 ghost use Rattle.std.specs.List.{flat_map};
 ghost use Rattle.tao_base.specs.Limits.{bucket_len};
+ghost use Rattle.tao_base.specs.Transfers.{same};
 ghost use Rattle.tao_bucket.specs.Encoding.{IsWritten, encoded};
-ghost use Rattle.tao_bucket.specs.Reading.{same};
 ghost use Rattle.tao_model.specs.Lawful.{IsInForm};
 ghost use Rattle.tao_model.specs.Trace.{nodes_in};
 ghost use Rattle.tao_images.specs.Orders.{IsOrderOf};
 
 use crate::orders::write_bucket;
-use tao_base::{Bucket, Order, Params};
+use tao_base::{Bucket, Order, Params, are_same};
 use tao_bucket::format_of;
 
 /// Whether the order sends these buckets with this version and this first nonce. Each bucket is encoded into the scratch bytes.
@@ -83,11 +83,4 @@ fn is_image(
         rest = later;
     }
     rest.is_empty()
-}
-
-/// Whether these are the same bytes.
-pub(crate) fn are_same(left: &[u8], right: &[u8]) -> bool
-    ensures { result ≡ same left.now right.now }
-{
-    left == right
 }

@@ -2,11 +2,11 @@
 ghost use Rattle.std.specs.Prelude.{◌≡◌, ◌==◌, ◌&&◌, not, length, drop, Some, None, OnOk, OnErr, IsSomeAnd};
 ghost use Rattle.std.specs.Result.{result_err};
 ghost use Rattle.tao_base.specs.Limits.{bucket_len, slots_len};
-ghost use Rattle.tao_bucket.specs.Reading.{read_bucket, same};
+ghost use Rattle.tao_base.specs.Transfers.{same};
+ghost use Rattle.tao_bucket.specs.Reading.{read_bucket};
 ghost use Rattle.tao_images.specs.Nodes.{node_refusal, Holds};
 
-use crate::comparing::are_same;
-use tao_base::{BucketFault, Params};
+use tao_base::{BucketFault, Params, are_same};
 use tao_bucket::{Room, decode, format_of, tail_of, version_of};
 
 /// Why the bytes of a node are refused.

@@ -27,7 +27,7 @@ pub fn order_room(alloc: Global, p: &Params, count: u32) -> Result<Order, NoMemo
     })
 }
 
-/// Makes the order one that sends these buckets with this version and this first nonce. It takes no memory.
+/// Makes the order, in place, one that sends these buckets with this version and this first nonce.
 pub fn write_order(
     p: &Params,
     key: &[u8; 32],
@@ -54,7 +54,7 @@ fn fill_nodes(nodes: &mut Numbers, buckets: &[Bucket])
     nodes.truncate(buckets.len());
 }
 
-// Writes the buckets' nodes to the front.
+// Writes the buckets' nodes to the first places.
 fn write_nodes(nodes: &mut [u32], buckets: &[Bucket])
     requires { length buckets.now ≤ length nodes.old }
     ensures { take (length buckets.now) nodes.new ≡ nodes_in buckets.now }
@@ -74,7 +74,7 @@ fn fill_image(p: &Params, key: &[u8; 32], format: u8, buckets: &[Bucket], image:
     image.truncate(buckets.len() * p.bucket_len() as usize);
 }
 
-// Writes the buckets' encodings to the front, one behind another.
+// Writes the buckets' encodings to the first places, one behind another.
 fn write_image(p: &Params, key: &[u8; 32], format: u8, buckets: &[Bucket], image: &mut [u8])
     requires form { All (IsInForm p.now) buckets.now }
     requires format { IsWritten p.now.form format }

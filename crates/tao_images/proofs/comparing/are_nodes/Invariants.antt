@@ -1,6 +1,6 @@
 -- What is left compares as the whole lists do.
 use Rattle.std.proofs.Common.{◌≡◌, drop}
-use Rattle.tao_bucket.specs.Reading.{same}
+use Rattle.tao_base.specs.Transfers.{same}
 use Rattle.tao_model.specs.Trace.{nodes_in}
 use Rattle.tao_images.proofs.comparing.are_nodes.Given as goal
 

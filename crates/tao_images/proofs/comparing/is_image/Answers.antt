@@ -5,7 +5,7 @@ use Rattle.std.proofs.lemmas.List.Elements.{All-get_or}
 use Rattle.tao_base.specs.Limits.{Shape, IsShape, bucket_len}
 use Rattle.tao_base.specs.declared.storage.Bucket.{Bucket}
 use Rattle.tao_bucket.specs.Encoding.{encoded}
-use Rattle.tao_bucket.specs.Reading.{same}
+use Rattle.tao_base.specs.Transfers.{same}
 use Rattle.tao_model.specs.Lawful.{IsInForm}
 use Rattle.tao_images.proofs.Comparisons.{none_left, one_less, same_nothing}
 use Rattle.tao_images.proofs.OrderLemmas.{length_encoded}

@@ -3,7 +3,7 @@ use Rattle.std.proofs.Common.{◌≡◌, drop, length}
 use Rattle.std.specs.List.{flat_map}
 use Rattle.tao_base.specs.Limits.{bucket_len}
 use Rattle.tao_bucket.specs.Encoding.{encoded}
-use Rattle.tao_bucket.specs.Reading.{same}
+use Rattle.tao_base.specs.Transfers.{same}
 use Rattle.tao_images.proofs.comparing.is_image.Given as goal
 
 abbrev pub invariant-loop-bucket : goal.invariant-loop-bucket

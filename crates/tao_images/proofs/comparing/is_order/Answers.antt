@@ -1,7 +1,7 @@
 use Rattle.std.proofs.Common.{sym, ap, ◌∙◌}
 use Rattle.std.specs.List.{flat_map}
 use Rattle.tao_bucket.specs.Encoding.{encoded}
-use Rattle.tao_bucket.specs.Reading.{same}
+use Rattle.tao_base.specs.Transfers.{same}
 use Rattle.tao_model.specs.Trace.{nodes_in}
 use Rattle.tao_images.proofs.OrderLemmas.{other_nodes, by_image}
 use Rattle.tao_images.proofs.comparing.is_order.Goals as goal

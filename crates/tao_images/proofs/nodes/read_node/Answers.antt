@@ -2,7 +2,7 @@ use Rattle.std.proofs.Common.{◌≡◌, ◌==◌, ◌&&◌, not, drop, sym, ap,
 use Rattle.std.specs.Prelude.{IsSomeAnd}
 use Rattle.tao_base.specs.Limits.{slots_len}
 use Rattle.tao_bucket.specs.Encoding.{Encodes}
-use Rattle.tao_bucket.specs.Reading.{same}
+use Rattle.tao_base.specs.Transfers.{same}
 use Rattle.tao_images.proofs.Refusals.{held_by}
 use Rattle.tao_images.proofs.nodes.read_node.Goals as goal
 
