@@ -19,5 +19,6 @@ pub mod Trace
 pub mod Transcript
 pub mod WholeRecords
 pub mod Worked
+pub mod WorkedFaults
 pub mod WorkedLawful
 pub mod WorkedPlays
