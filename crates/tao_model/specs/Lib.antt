@@ -22,3 +22,4 @@ pub mod Worked
 pub mod WorkedFaults
 pub mod WorkedLawful
 pub mod WorkedPlays
+pub mod WorkedResends

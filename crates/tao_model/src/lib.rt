@@ -14,6 +14,7 @@ mod whole_records;
 mod worked;
 mod worked_faults;
 mod worked_plays;
+mod worked_resends;
 
 pub use copies::{
     few_entries, first_copy_counts, gathers_first, gathers_more, gathers_new, gathers_old,
@@ -48,3 +49,4 @@ pub use worked_faults::{
     causes_that_can_be, fetches_that_cannot_fail, scans_that_cannot_fail, stale_that_cannot_be,
 };
 pub use worked_plays::{touched_since_is_kept, trace_out_of_order, twin_of_reads};
+pub use worked_resends::{resends_are_seen, resends_are_told};

@@ -1,0 +1,12 @@
+//! Stores that are sent again.
+ghost use Rattle.tao_model.specs.WorkedResends.{ResendsAreTold, ResendsAreSeen};
+
+/// The text of two stores sent again and acknowledged the later first, with a close and without one.
+pub fn resends_are_told()
+    ensures { ResendsAreTold }
+{}
+
+/// What the server sees of them.
+pub fn resends_are_seen()
+    ensures { ResendsAreSeen }
+{}
