@@ -51,7 +51,7 @@ abbrev form_test : Shape → Bucket → Bool
 form_test s b = nat_le 1 b.node && (nat_le b.node (node_count s.l) && (nat_le (length b.entries) s.z && (rises_test 0 b.entries
     && (list_all (λ entry. nat_lt entry.id s.n) b.entries && list_all (λ entry. nat_eq (length entry.value) s.b) b.entries))))
 
-form_by : (s : Shape) (b : Bucket) → form_test s b ≡ true → IsInForm s b
+pub form_by : (s : Shape) (b : Bucket) → form_test s b ≡ true → IsInForm s b
 form_by s b h =
     let p = and_parts (nat_le 1 b.node) _ h in
     let q = and_parts (nat_le b.node (node_count s.l)) _ p.1 in

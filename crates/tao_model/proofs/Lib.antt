@@ -20,6 +20,7 @@ pub mod PlacedEntries
 pub mod Places
 pub mod PlainArrays
 pub mod RealArrivals
+pub mod RefusedRecords
 pub mod RisingEntries
 pub mod Stays
 pub mod WholeToLawful

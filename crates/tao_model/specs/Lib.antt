@@ -22,4 +22,5 @@ pub mod Worked
 pub mod WorkedFaults
 pub mod WorkedLawful
 pub mod WorkedPlays
+pub mod WorkedRefusals
 pub mod WorkedResends

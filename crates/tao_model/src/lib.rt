@@ -14,6 +14,7 @@ mod whole_records;
 mod worked;
 mod worked_faults;
 mod worked_plays;
+mod worked_refusals;
 mod worked_resends;
 
 pub use copies::{
@@ -49,4 +50,5 @@ pub use worked_faults::{
     causes_that_can_be, fetches_that_cannot_fail, scans_that_cannot_fail, stale_that_cannot_be,
 };
 pub use worked_plays::{touched_since_is_kept, trace_out_of_order, twin_of_reads};
+pub use worked_refusals::{forms_are_told, refusals_are_told};
 pub use worked_resends::{resends_are_seen, resends_are_told};
