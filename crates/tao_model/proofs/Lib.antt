@@ -1,3 +1,4 @@
+pub mod AlteredAnswers
 pub mod CausesOfFaults
 pub mod DonesInOrder
 pub mod EventPlaces

@@ -19,6 +19,7 @@ pub mod Trace
 pub mod Transcript
 pub mod WholeRecords
 pub mod Worked
+pub mod WorkedAnswers
 pub mod WorkedFaults
 pub mod WorkedLawful
 pub mod WorkedPlays

@@ -12,6 +12,7 @@ mod stability;
 mod trace;
 mod whole_records;
 mod worked;
+mod worked_answers;
 mod worked_faults;
 mod worked_plays;
 mod worked_refusals;
@@ -46,6 +47,7 @@ pub use worked::{
     full_path, kept_under_a_fetch, no_write_back_before_the_period, one_read, overlapping_requests,
     read_write_read, worked_are_lawful, write_backs_out_of_order,
 };
+pub use worked_answers::answers_are_told;
 pub use worked_faults::{
     causes_that_can_be, fetches_that_cannot_fail, scans_that_cannot_fail, stale_that_cannot_be,
 };
