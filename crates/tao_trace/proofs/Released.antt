@@ -28,11 +28,6 @@ arrived_within o (Fault cause ∷ es) f = arrived_within o es f.0
 pub has_flag : (o : Opening) (es : List Event) (arrival : ℕ) (taken : List Bucket) (flags : List Bool) → AreFlags o es flags → FollowsLawfully o (Done arrival taken ∷ es) → arrival < length flags
 has_flag o es arrival taken flags are f = let len = are.len in let limit = arrived_within o es f.0 in let there = f.2.1.arrived in omega arith
 
--- and it isn't up
-pub flag_is_down : (o : Opening) (es : List Event) (arrival : ℕ) (taken : List Bucket) (flags : List Bool) → AreFlags o es flags → FollowsLawfully o (Done arrival taken ∷ es)
-    → is_done_in flags arrival ≡ false
-flag_is_down o es arrival taken flags are f = are.each arrival ∙ f.2.1.under_way
-
 -- a Done raises it
 pub flags_done : (o : Opening) (es : List Event) (arrival : ℕ) (taken : List Bucket) (flags : List Bool) → AreFlags o es flags → FollowsLawfully o (Done arrival taken ∷ es)
     → AreFlags o (Done arrival taken ∷ es) (set flags arrival true)
