@@ -30,6 +30,10 @@ next_placed s at leaf contents entry = put_next (may_place s.l at leaf) (node_co
 abbrev pub all_placed : Shape → ℕ → (ℕ → ℕ) → List Entry → ℕ → List Entry
 all_placed s at leaf entries = one_pass (may_place s.l at leaf) (node_count s.l) s.z entries
 
+-- once all entries of a list have gone to their spots, these are the lists of the path's nodes and the stash
+abbrev pub PlacesAll : Shape → ℕ → (ℕ → ℕ) → List Entry → List (List Entry) → List Entry → Type 0
+PlacesAll s at leaf entries lists stash = (lists ≡ lists_on s.l at (all_placed s at leaf entries)) × (stash ≡ all_placed s at leaf entries 0)
+
 -- one entry goes where it is to go: to a node of the path, or behind the rest, which is the stash's
 abbrev pub PlacesNext : Shape → ℕ → (ℕ → ℕ) → List (List Entry) → List Entry → Entry → List (List Entry) → List Entry → Type 0
 PlacesNext s at leaf old rest entry new rest' = (contents : ℕ → List Entry) → old ≡ lists_on s.l at contents → rest ≡ contents 0

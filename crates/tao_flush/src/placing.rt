@@ -3,7 +3,7 @@ ghost use Rattle.std.specs.Prelude.{◌≡◌, ◌+◌, ◌^◌, ◌<◌, ◌≤
 ghost use Rattle.std.specs.List.{slice_index_or};
 ghost use Rattle.tao_model.specs.Greatest.{IsLast};
 ghost use Rattle.tao_flush.specs.State.{leaf_in};
-ghost use Rattle.tao_flush.specs.Placing.{fits, lists_on, all_placed, PlacesNext, AreShared};
+ghost use Rattle.tao_flush.specs.Placing.{fits, PlacesAll, PlacesNext, AreShared};
 ghost use Rattle.tao_flush.specs.Ranking.{chosen, IsRanked};
 
 use crate::gathering::take;
@@ -41,8 +41,7 @@ impl Eviction<'_> {
         requires ranked { IsRanked copies.old count keys.now }
         requires none { rest.old.items ≡ [] }
         requires room { length keys.now ≤ vec_capacity rest.old }
-        ensures path { path.new ≡ lists_on self.now.p.l self.now.leaf (all_placed self.now.p self.now.leaf (leaf_in self.now.positions.now) (chosen copies.old 0 keys.now)) }
-        ensures rest { rest.new.items ≡ all_placed self.now.p self.now.leaf (leaf_in self.now.positions.now) (chosen copies.old 0 keys.now) 0 }
+        ensures placed { PlacesAll self.now.p self.now.leaf (leaf_in self.now.positions.now) (chosen copies.old 0 keys.now) path.new rest.new.items }
         ensures capacity { vec_capacity rest.old ≤ vec_capacity rest.new }
     {
         // tells the prover that the number of blocks fits 32 bits

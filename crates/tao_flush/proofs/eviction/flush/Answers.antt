@@ -80,8 +80,8 @@ returns c =
     ∙ ap (λ all. chosen c.deref.result.now 0 (take c.gather_path-count.result all)) keys
     ∙ chosen_gathered c.stash.inside.entries.items c.args.path.now c.deref.result.now c.gather_path-count.result (take c.gather_path-count.result c.rank_copies.new.keys) is.rises
     (ap (take c.gather_path-count.result) (c.deref.ensures.value ∙ back) ∙ c.gather_path-count.ensures.copies) c.rank_copies.ensures.ranked in
-    let rest = c.place_copies.ensures.rest ∙ ap (λ es. all_placed c.args.p.now c.args.leaf (leaf_in c.args.positions.now) es 0) chosen_is in
-    let placed = c.place_copies.ensures.path ∙ ap (λ es. lists_on c.args.p.now.l c.args.leaf (all_placed c.args.p.now c.args.leaf (leaf_in c.args.positions.now) es)) chosen_is in
+    let rest = c.place_copies.ensures.placed.1 ∙ ap (λ es. all_placed c.args.p.now c.args.leaf (leaf_in c.args.positions.now) es 0) chosen_is in
+    let placed = c.place_copies.ensures.placed.0 ∙ ap (λ es. lists_on c.args.p.now.l c.args.leaf (all_placed c.args.p.now c.args.leaf (leaf_in c.args.positions.now) es)) chosen_is in
     let keeps = gathered_keeps c.args.p.now c.stash.inside.entries.items c.args.path.now is c.requires.entries in record {
       evicted = rw (← c.stash.view_is)
           (evicts c.args.p.now c.args.leaf (leaf_in c.args.positions.now) c.stash.inside.entries.items c.args.path.now (fold gather c.stash.inside.entries.items c.args.path.now)
