@@ -1,6 +1,6 @@
 -- A script ends as what playing came to, and a play ends as its script.
 use Rattle.std.proofs.Math.Seq.{take-length}
-use Rattle.std.proofs.Common.{◌≡◌, inl, inr, ℕ, List, [], Option, Some, None, IfSome, Result, Ok, Err, OnOk, OnErr, refl, sym, ap, ◌∙◌, subst, take, length, reverse}
+use Rattle.std.proofs.Common.{◌≡◌, inl, inr, ℕ, List, Option, Some, IfSome, Result, Ok, Err, OnOk, OnErr, sym, ap, ◌∙◌, subst, take, length, reverse}
 use Rattle.tao_base.specs.Session.{History}
 use Rattle.tao_base.specs.declared.failures.NoMemory as failures
 use Rattle.tao_desk.specs.Whole.{DeskState, IsSound, started}
@@ -11,8 +11,7 @@ use Rattle.taostore.specs.declared.output.End.{End}
 use Rattle.taostore.specs.declared.output.End.TheVariants.{Done, Refused, Broken, Unbuilt, SourceFailed, NoMemory}
 use Rattle.taostore.specs.declared.session.Played.{Played}
 use Rattle.taostore.specs.declared.session.Played.TheVariants.{Whole, Part, Nothing}
-use Rattle.taostore.specs.Endings.{EndsAs, IsLawfullyPlayed, KeepsAll, KeepsPart, PlayEnds, PlayedEnds, ScriptEnds, SessionEnds, TakesPlayed, end_line, final_array}
-use Rattle.taostore.specs.Input.{TakesPrefix}
+use Rattle.taostore.specs.Endings.{EndsAs, IsLawfullyPlayed, KeepsPart, PlayEnds, PlayedEnds, ScriptEnds, SessionEnds, TakesPlayed, final_array}
 use Rattle.taostore.specs.Playing.{Closes, IsPart, IsPlayed, PlaysScript, PlaysSteps, first_blocks, tape_of}
 use Rattle.taostore.proofs.Ends.{ends_for}
 

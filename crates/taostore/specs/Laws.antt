@@ -1,8 +1,7 @@
 -- What follows from how the program ends: each answer has its cause, and each cause has its answer.
-use Rattle.std.specs.Prelude.{◌≡◌, ◌⊎◌, ℕ, List, [], ◌∷◌, codes, Option, None, IsNone}
+use Rattle.std.specs.Prelude.{◌≡◌, ◌⊎◌, ℕ, List, [], ◌∷◌, codes, Option, IsNone}
 use Rattle.std.specs.Io.KnownBytes.{Keeps}
 use Rattle.tao_base.specs.Causes.{Rose}
-use Rattle.tao_base.specs.Session.{History}
 use Rattle.tao_record.specs.State.{RecordState}
 use Rattle.tao_text.specs.declared.script.Script.{Script}
 use Rattle.taostore.specs.Endings.{EndsAs, PlayEnds, RefusedEnds, HoldsPlayed, HoldsUnplayed, TakesPlayed, TakesUnplayed, kept_history}
