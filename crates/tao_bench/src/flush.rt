@@ -9,7 +9,7 @@ use std::mem;
 use tao_base::{Block, Bucket, Entries, NoMemory, Params, path_node};
 use tao_flush::{Positions, Stash, flush, load};
 
-/// What is done in each turn, between the taking of a path from its nodes and the giving back.
+/// What each turn does between taking a path from its nodes and giving it back.
 #[derive(Clone, Copy)]
 pub(crate) enum Turn {
     /// A block of the path gets another word and goes to the stash, and the path is evicted.
@@ -18,14 +18,9 @@ pub(crate) enum Turn {
     Rests,
 }
 
-/// Loads a store of `n` blocks, and does this many turns.
-pub(crate) fn checksum(
-    alloc: Global,
-    n: u32,
-    turn: Turn,
-    count: u32,
-) -> Result<u64, anyhow::Error> {
-    let p = Params::new(10, 4, 64, n, 1)?;
+/// Loads a store of 4,096 blocks, and does this many turns.
+pub(crate) fn checksum(alloc: Global, turn: Turn, count: u32) -> Result<u64, anyhow::Error> {
+    let p = Params::new(10, 4, 64, 4_096, 1)?;
     let words = words_of(alloc, p.n())?;
     let blocks = blocks_of(alloc, &p)?;
     ensure!(words.len() == p.n() as usize, "a block has no word");
@@ -50,7 +45,7 @@ pub(crate) fn checksum(
     Ok(entries_of(nodes.as_slice()))
 }
 
-// A cheap hash of a number.
+// A cheap hash.
 fn mixed(number: u32) -> u32 {
     let mut word = number.wrapping_add(1).wrapping_mul(0x9e37_79b1);
     word ^= word >> 15;
@@ -152,7 +147,7 @@ fn swap_entries(p: &Params, list: &mut Entries, bucket: &mut Bucket)
     mem::swap(list, &mut bucket.entries);
 }
 
-// How many entries the nodes have, and which.
+// A checksum of the ids in the nodes.
 fn entries_of(nodes: &[Bucket]) -> u64 {
     let mut sum = 0u64;
     for bucket in nodes {

@@ -11,7 +11,7 @@ const LIMIT: u32 = 1 << 25;
 /// Feeds the frame of a value of this many bytes singly, and asks for a message after each.
 pub(crate) fn checksum(alloc: Global, count: u32) -> Result<u64, anyhow::Error> {
     ensure!(count < LIMIT, "a value has at most 2^25 - 1 bytes");
-    // A length field that promises a frame at the limit, and nothing behind it.
+    // A length field that promises a frame at the limit, and nothing after it.
     let mut waiting = Decoder::new(alloc, LIMIT)?;
     waiting.feed(&LIMIT.to_be_bytes())?;
     let value = Block::from_vec(vec![in alloc; 7; count as usize]?);

@@ -7,8 +7,8 @@ use std::alloc::Global;
 use tao_base::{Entries, NoMemory, Params};
 use tao_flush::{Positions, Stash, flush};
 
-/// Evicts this many paths, in a store of `n` blocks. Before each, the blocks of the path get other words, so that eight can go to each
-/// node and no deeper, and `in_stash` of them find no room.
+/// Evicts this many paths in a store of `n` blocks. Before each, the blocks of the path get new words, so that eight of them can go to each
+/// node but no deeper, and `in_stash` of them stay in the stash.
 pub(crate) fn checksum(
     alloc: Global,
     n: u32,
@@ -34,7 +34,7 @@ pub(crate) fn checksum(
     Ok(sum)
 }
 
-// The blocks, so many in all, lie far apart, so that their words do.
+// The ids of the blocks are spread out, so that their words lie far apart.
 fn block_id(p: &Params, all: u32, i: u32) -> u32
     requires { 0 < all }
     ensures { result < p.now.n }
@@ -84,7 +84,7 @@ fn move_blocks(p: &Params, all: u32, positions: &mut Positions, leaf: u32, turn:
     }
 }
 
-// A leaf whose path goes with this leaf's as far as this depth.
+// A leaf whose path shares this leaf's path down to this depth.
 fn leaf_beside(p: &Params, leaf: u32, depth: u32) -> u32 {
     if depth < p.l() {
         leaf ^ 1 << (p.l() - 1 - depth)

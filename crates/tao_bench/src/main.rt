@@ -1,10 +1,9 @@
-//! Runs the parts of the store that the speed of an access rests on. The words are pairs of a command and how often it is done; each
-//! pair writes the command and a checksum of what it made.
+//! Runs the parts that the speed of an access rests on. The arguments are pairs of a command and how often to run it; each pair prints
+//! the command and a checksum of its results.
 #![tactic(auto)]
 
 mod checksum;
 mod codec;
-mod copy;
 mod flush;
 mod frames;
 mod full_path;
@@ -36,11 +35,8 @@ fn main(rt: HostRuntime) -> Result<(), anyhow::Error> {
             "xor" => xor::checksum(count),
             "frames" => frames::checksum(alloc, count)?,
             "sequence" => sequence::checksum(alloc, count)?,
-            "copy" => copy::checksum(alloc, count)?,
-            "flush" => flush::checksum(alloc, 4_096, Turn::Evicts, count)?,
-            "flush-rest" => flush::checksum(alloc, 4_096, Turn::Rests, count)?,
-            "flush-few" => flush::checksum(alloc, 1_024, Turn::Evicts, count)?,
-            "flush-few-rest" => flush::checksum(alloc, 1_024, Turn::Rests, count)?,
+            "flush" => flush::checksum(alloc, Turn::Evicts, count)?,
+            "flush-rest" => flush::checksum(alloc, Turn::Rests, count)?,
             "flush-1024" => full_path::checksum(alloc, 1_024, 20, count)?,
             "flush-524288" => full_path::checksum(alloc, 524_288, 20, count)?,
             "flush-stash-300" => full_path::checksum(alloc, 524_288, 300, count)?,

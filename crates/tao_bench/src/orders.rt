@@ -8,7 +8,7 @@ use std::sync::Wait;
 use tao_base::NoMemory;
 use tao_orders::{Orders, Work};
 
-/// As many Stops are put and taken.
+/// Puts and takes this many Stops.
 pub(crate) fn orders<R: Wait>(rt: &R, alloc: Global, count: u32) -> Result<u64, NoMemory> {
     let (orders, mut putting, mut taking) = Orders::new(alloc, 16)?;
     let mut sum = 0u64;

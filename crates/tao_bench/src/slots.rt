@@ -1,4 +1,4 @@
-//! Slots of a tree of height 15, and the finding of nodes in them.
+//! Slots of a tree of height 15, in which nodes are found.
 ghost use Rattle.std.specs.Prelude.{◌≡◌, ◌<◌};
 
 use std::alloc::Global;
@@ -7,7 +7,7 @@ use tao_slots::Slots;
 
 const FINDS: u32 = 50_000_000;
 
-/// Holds so many nodes, from the root on, and finds held nodes in a scattered order; then again without the root.
+/// Holds this many nodes, from the root on, and finds held nodes in a scattered order; then again without the root.
 pub(crate) fn checksum(alloc: Global, count: u32) -> Result<u64, anyhow::Error> {
     let p = Params::new(15, 1, 4, 1, 1)?;
     let mut slots = Slots::with_room(alloc, &p, count as usize)?;
@@ -41,7 +41,7 @@ fn hold(alloc: Global, p: &Params, slots: &mut Slots, count: u32) -> Result<(), 
     Ok(())
 }
 
-// How many of so many finds, over the numbers below `count`, found a slot.
+// How many of the finds, over the numbers below `count`, found a slot.
 fn found(slots: &Slots, count: u32) -> u64 {
     let mut word = 1u32;
     let mut found = 0u64;

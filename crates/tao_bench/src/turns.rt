@@ -1,4 +1,4 @@
-//! Turns of one thread, beside std's lock, and glances, beside loads.
+//! Turns of one thread compared with std's lock, and glances compared with loads.
 ghost use Rattle.std.specs.Prelude.{◌≡◌, [], None};
 ghost use Rattle.std.proofs.Common.{rules};
 ghost use Rattle.tao_turn.specs.Passes.{IsPassOf};
@@ -9,7 +9,7 @@ use std::sync::atomic::{AtomicU64, Ordering};
 use std::sync::{Mutex, Wait};
 use tao_turn::{Journal, TurnLock, TurnPass};
 
-/// A value without entries.
+/// A value without entries, whose mark is 1.
 #[derive(Drop)]
 struct Quiet {
     turns: u64,
@@ -20,7 +20,7 @@ impl Journal for Quiet {
 
     ghost entries = { λ quiet. [] };
 
-    ghost mark_of = { λ list. 0 };
+    ghost mark_of = { λ list. 1 };
 
     ghost maker = { λ list i. None };
 
@@ -29,11 +29,11 @@ impl Journal for Quiet {
     ghost maker_stays = { Prim.search rules };
 
     fn mark(&self) -> u64 {
-        0
+        1
     }
 }
 
-/// As many turns.
+/// Takes this many turns.
 pub(crate) fn turns<R: Wait>(rt: &R, alloc: Global, count: u32) -> Result<u64, anyhow::Error> {
     match TurnLock::new(alloc, Quiet { turns: 0 }, 1) {
         Ok((lock, pass)) => {
@@ -76,7 +76,7 @@ pub(crate) fn mutex<R: Wait>(rt: &R, count: u32) -> u64 {
     turns.into_inner()
 }
 
-/// As many glances.
+/// Glances this many times, and sums the marks.
 pub(crate) fn glances<R: Wait>(rt: &R, alloc: Global, count: u32) -> Result<u64, anyhow::Error> {
     match TurnLock::new(alloc, Quiet { turns: 0 }, 1) {
         Ok((lock, pass)) => {
@@ -97,9 +97,9 @@ fn glance_often(lock: &TurnLock<Quiet>, pass: &mut TurnPass<u64>, count: u32) ->
     sum
 }
 
-/// As many loads.
+/// Loads an atomic 1 this many times, and sums what it loads.
 pub(crate) fn loads(count: u32) -> u64 {
-    let word = AtomicU64::new(0);
+    let word = AtomicU64::new(1);
     let mut sum = 0u64;
     for _ in 0..count {
         sum = sum.wrapping_add(word.load(Ordering::SeqCst));

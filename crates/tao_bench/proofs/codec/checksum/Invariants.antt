@@ -1,4 +1,4 @@
--- The bucket stays in form, and the room one for it.
+-- The bucket stays in form, and the `Room` fits it.
 use Rattle.std.proofs.Common.{◌≡◌, ◌≤◌}
 use Rattle.tao_bucket.specs.Encoding.{IsInForm}
 use Rattle.tao_bench.proofs.codec.checksum.Given as goal
