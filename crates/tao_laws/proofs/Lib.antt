@@ -1,3 +1,4 @@
+pub mod AnswersAsWritten
 pub mod AskedNodes
 pub mod DistinctPlaces
 pub mod EqualPlays

@@ -1,3 +1,4 @@
+pub mod HonestFetches
 pub mod OpenRequests
 pub mod Residents
 pub mod SettledValues

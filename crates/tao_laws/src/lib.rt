@@ -2,11 +2,13 @@
 //! The only code is laws: functions with empty bodies, whose contract is the law.
 #![tactic(auto)]
 
+mod honest_fetches;
 mod open_requests;
 mod residents;
 mod tape_words;
 mod two_plays;
 
+pub use honest_fetches::{unaltered_by_test, unaltered_means};
 pub use open_requests::{
     leaf_is_position, one_real, queue_of_block, quiet_is_settled, released_is_settled, right_value,
     words_are_handed_on,
