@@ -1,10 +1,12 @@
 -- The pass in rising id, as the lists of a path's nodes see it.
-use Rattle.std.specs.Prelude.{◌≡◌, ℕ, ◌+◌, ◌≤◌, ◌==◌, nat_lt, Bool, ◌&&◌, List, [], map, length}
+use Rattle.std.specs.Prelude.{◌≡◌, ℕ, ◌+◌, ◌^◌, ◌<◌, ◌≤◌, ◌==◌, nat_lt, Bool, ◌&&◌, List, [], map, length}
 use Rattle.std.specs.List.{list_any, range_with_len, slice_index_or}
 use Rattle.tao_base.specs.declared.storage.Entry.{Entry}
 use Rattle.tao_base.specs.Limits.{Shape}
 use Rattle.tao_base.specs.Tree.{node_at, node_count, path, is_on_path}
 use Rattle.tao_model.specs.Passes.{put_next, one_pass}
+use Rattle.tao_flush.specs.State.{leaf_in}
+use Rattle.tao_flush.specs.declared.placing.Eviction.{Eviction}
 
 -- what the nodes of a leaf's path have, from the root on
 abbrev pub lists_on : ℕ → ℕ → (ℕ → List Entry) → List (List Entry)
@@ -30,11 +32,22 @@ next_placed s at leaf contents entry = put_next (may_place s.l at leaf) (node_co
 abbrev pub all_placed : Shape → ℕ → (ℕ → ℕ) → List Entry → ℕ → List Entry
 all_placed s at leaf entries = one_pass (may_place s.l at leaf) (node_count s.l) s.z entries
 
--- once all entries of a list have gone to their spots, these are the lists of the path's nodes and the stash
-abbrev pub PlacesAll : Shape → ℕ → (ℕ → ℕ) → List Entry → List (List Entry) → List Entry → Type 0
-PlacesAll s at leaf entries lists stash = (lists ≡ lists_on s.l at (all_placed s at leaf entries)) × (stash ≡ all_placed s at leaf entries 0)
-
 -- one entry goes where it is to go: to a node of the path, or behind the rest, which is the stash's
 abbrev pub PlacesNext : Shape → ℕ → (ℕ → ℕ) → List (List Entry) → List Entry → Entry → List (List Entry) → List Entry → Type 0
 PlacesNext s at leaf old rest entry new rest' = (contents : ℕ → List Entry) → old ≡ lists_on s.l at contents → rest ≡ contents 0
     → (new ≡ lists_on s.l at (next_placed s at leaf contents entry)) × (rest' ≡ next_placed s at leaf contents entry 0)
+
+-- ---- in the words of the calls
+
+-- the leaf is one of the tree, and the positions are those of its blocks
+abbrev pub IsEviction : Eviction → Type 0
+IsEviction e = (e.leaf < 2 ^ e.p.l) × (e.positions.now.shape ≡ e.p)
+
+-- one entry goes where it is to go, as above
+abbrev pub PlacesOne : Eviction → List (List Entry) → List Entry → Entry → List (List Entry) → List Entry → Type 0
+PlacesOne e lists rest entry lists' rest' = PlacesNext e.p e.leaf (leaf_in e.positions.now) lists rest entry lists' rest'
+
+-- all entries of a list have gone where they are to go: these are the lists of the path's nodes, and the rest
+abbrev pub PlacesAll : Eviction → List Entry → List (List Entry) → List Entry → Type 0
+PlacesAll e entries lists rest =
+    (lists ≡ lists_on e.p.l e.leaf (all_placed e.p e.leaf (leaf_in e.positions.now) entries)) × (rest ≡ all_placed e.p e.leaf (leaf_in e.positions.now) entries 0)

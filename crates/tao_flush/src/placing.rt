@@ -2,8 +2,7 @@
 ghost use Rattle.std.specs.Prelude.{◌≡◌, ◌+◌, ◌^◌, ◌<◌, ◌≤◌, [], ◌∷◌, ◌++◌, length, take, vec_len, vec_capacity, IfSome, All};
 ghost use Rattle.std.specs.List.{slice_index_or};
 ghost use Rattle.tao_model.specs.Greatest.{IsLast};
-ghost use Rattle.tao_flush.specs.State.{leaf_in};
-ghost use Rattle.tao_flush.specs.Placing.{fits, PlacesAll, PlacesNext, AreShared};
+ghost use Rattle.tao_flush.specs.Placing.{fits, IsEviction, PlacesAll, PlacesOne, AreShared};
 ghost use Rattle.tao_flush.specs.Ranking.{chosen, IsRanked};
 
 use crate::gathering::take;
@@ -32,8 +31,7 @@ impl Eviction<'_> {
         keys: &[u64],
         rest: &mut Vec<Entry>,
     )
-        requires leaf { self.now.leaf < 2 ^ self.now.p.l }
-        requires positions { self.now.positions.now.shape ≡ self.now.p }
+        requires eviction { IsEviction self.now }
         requires count { count ≤ length copies.old }
         requires ids { All (λ entry. entry.id < self.now.p.n) (take count copies.old) }
         requires path { length path.old ≡ self.now.p.l + 1 }
@@ -41,7 +39,7 @@ impl Eviction<'_> {
         requires ranked { IsRanked copies.old count keys.now }
         requires none { rest.old.items ≡ [] }
         requires room { length keys.now ≤ vec_capacity rest.old }
-        ensures placed { PlacesAll self.now.p self.now.leaf (leaf_in self.now.positions.now) (chosen copies.old 0 keys.now) path.new rest.new.items }
+        ensures placed { PlacesAll self.now (chosen copies.old 0 keys.now) path.new rest.new.items }
         ensures capacity { vec_capacity rest.old ≤ vec_capacity rest.new }
     {
         // tells the prover that the number of blocks fits 32 bits
@@ -60,12 +58,11 @@ impl Eviction<'_> {
 
     // Puts an entry where it is to go: into a node, or behind the rest.
     fn place_entry(&self, path: &mut [Entries], rest: &mut Vec<Entry>, entry: Entry)
-        requires leaf { self.now.leaf < 2 ^ self.now.p.l }
-        requires positions { self.now.positions.now.shape ≡ self.now.p }
+        requires eviction { IsEviction self.now }
         requires block { entry.id < self.now.p.n }
         requires path { length path.old ≡ self.now.p.l + 1 }
         requires room { vec_len rest.old < vec_capacity rest.old }
-        ensures placed { PlacesNext self.now.p self.now.leaf (leaf_in self.now.positions.now) path.old rest.old.items entry path.new rest.new.items }
+        ensures placed { PlacesOne self.now path.old rest.old.items entry path.new rest.new.items }
         ensures most { vec_len rest.new ≤ vec_len rest.old + 1 }
         ensures capacity { vec_capacity rest.old ≤ vec_capacity rest.new }
     {
