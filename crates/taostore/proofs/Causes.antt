@@ -8,7 +8,8 @@ use Rattle.taostore.specs.declared.output.End.{End}
 use Rattle.taostore.specs.declared.output.End.TheVariants.{Done, Refused, Broken, Unbuilt, SourceFailed, NoMemory}
 use Rattle.taostore.specs.Endings.{PlayEnds, RefusedEnds, kept_history, status_of}
 use Rattle.taostore.specs.Laws.{ProgramEnds, AnswersHaveCauses, CausesHaveAnswers, TouchesLittle, HaveCauses, HaveAnswers, TouchLittle, PlayIsProgram}
-use Rattle.taostore.specs.Output.{Finishes, PutsAll, PutsMore, PutsPart}
+use Rattle.tao_base.specs.Transfers.{PutsAll, PutsPart}
+use Rattle.taostore.specs.Output.{Finishes, PutsMore}
 use Rattle.taostore.specs.Words.{AskToPlay, AreRefused}
 use Rattle.taostore.proofs.Ends.{ends_so, end_puts_more, end_fails}
 use Rattle.taostore.proofs.Inputs.{ends_unfailed, ends_source, ends_unplayed, ends_played}

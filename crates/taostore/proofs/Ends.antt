@@ -3,7 +3,8 @@ use Rattle.std.proofs.Common.{◌≡◌, ◌⊎◌, inl, inr, ℕ, List, Option,
 use Rattle.tao_text.specs.declared.faults.TextFault.{TextFault}
 use Rattle.taostore.specs.declared.output.End.{End}
 use Rattle.taostore.specs.declared.output.End.TheVariants.{Done, Refused, Broken, Unbuilt, SourceFailed, NoMemory}
-use Rattle.taostore.specs.Output.{Finishes, PutsAll, PutsMore}
+use Rattle.tao_base.specs.Transfers.{PutsAll}
+use Rattle.taostore.specs.Output.{Finishes, PutsMore}
 use Rattle.taostore.specs.Endings.{EndsAs, status_of}
 
 module _ {K : Type 0} (put : K → Option (List ℕ)) (faults : K → ℕ) (old new : K) where

@@ -3,8 +3,9 @@ use Rattle.std.proofs.Common.{◌≡◌, ℕ, ◌+◌, ◌<◌, List, [], ◌∷
 use Rattle.std.specs.Borrow.{Bor}
 use Rattle.std.proofs.lemmas.Grind.{flat_map-append}
 use Rattle.std.proofs.lemmas.List.{take_more, take-append-drop}
-use Rattle.taostore.specs.Output.{PutsAll, PutsPart, joined}
-use Rattle.taostore.proofs.Telling.{part_then, part_of_more}
+use Rattle.tao_base.specs.Transfers.{PutsAll, PutsPart}
+use Rattle.taostore.specs.Output.{joined}
+use Rattle.tao_base.proofs.TransferLemmas.{part_then, part_of_more}
 
 pub on_err : {T E : Type 0} (r : Result T E) (X : Type 0) → X → OnErr r X
 on_err (Ok x) X h = tt

@@ -1,11 +1,8 @@
 -- What is told piece by piece is told whole.
 use Rattle.std.proofs.Common.{◌≡◌, inl, inr, ℕ, ◌+◌, ◌-◌, ◌<◌, List, [], ◌++◌, length, flat_map, zero, suc, Option, Some, Result, Ok, Err, refl, sym, ap, ◌∙◌, subst, arith, append_assoc, append-nil}
-use Rattle.std.proofs.KnownBytes.{Appends-nil, Appends-trans}
-use Rattle.std.proofs.lemmas.List.{take-append-le, length-append}
-use Rattle.std.proofs.Math.Seq.{take-append-add}
-use Rattle.std.specs.Io.KnownBytes.{Appends}
+use Rattle.std.proofs.KnownBytes.{Appends-nil}
 use Rattle.std.specs.List.{range_with_len}
-use Rattle.tao_base.specs.Causes.{Rose}
+use Rattle.tao_base.proofs.TransferLemmas.{puts_then, part_of_more, part_then}
 use Rattle.tao_trace.specs.WholeLines.{AreLines, AreFirstLines}
 use Rattle.tao_trace.proofs.Ranges.{texts_more}
 use Rattle.tao_trace.proofs.WholeLines.{more_lines, each_lines}
@@ -14,7 +11,8 @@ use Rattle.taostore.specs.declared.faults.StreamFault.TheVariants.{Failed, NoMem
 use Rattle.taostore.specs.declared.output.End.TheVariants as ends
 use Rattle.taostore.specs.declared.output.End.TheVariants.{Done}
 use Rattle.taostore.specs.Endings.{end_line, EndsAs, SessionEnds}
-use Rattle.taostore.specs.Output.{PutsAll, PutsPart, Finishes, Tells, TellsLines, session_lines}
+use Rattle.tao_base.specs.Transfers.{PutsAll, PutsPart}
+use Rattle.taostore.specs.Output.{Finishes, Tells, TellsLines, session_lines}
 use Rattle.tao_base.specs.Session.{History}
 use Rattle.tao_trace.proofs.WholeText.{text_is_printed}
 use Rattle.taostore.proofs.Ends.{ends_with}
@@ -37,29 +35,6 @@ module _ {K : Type 0} (put : K → Option (List ℕ)) (faults : K → ℕ) where
   pub puts_none : (a : K) → PutsAll put faults a a []
   puts_none a = record { whole = Appends-nil (put a); unfailed = refl }
 
-  pub puts_then : (a b c : K) (x y : List ℕ) → PutsAll put faults a b x → PutsAll put faults b c y → PutsAll put faults a c (x ++ y)
-  puts_then a b c x y one two = record { whole = Appends-trans _ _ _ _ _ one.whole two.whole; unfailed = two.unfailed ∙ one.unfailed }
-
-  pub part_of_more : (a b : K) (x y : List ℕ) → PutsPart put faults a b x → PutsPart put faults a b (x ++ y)
-  part_of_more a b x y p =
-      let short = p.short in
-      record {
-        part = p.part;
-        short = omega (arith, length-append x y);
-        front = subst (Appends (put a) (put b)) (sym (take-append-le p.part x y (omega arith))) p.front;
-        rose = p.rose;
-      }
-
-  pub part_then : (a b c : K) (x y : List ℕ) → PutsAll put faults a b x → PutsPart put faults b c y → PutsPart put faults a c (x ++ y)
-  part_then a b c x y one p =
-      let short = p.short in
-      record {
-        part = length x + p.part;
-        short = omega (arith, length-append x y);
-        front = subst (Appends (put a) (put c)) (sym (take-append-add x y p.part)) (Appends-trans _ _ _ _ _ one.whole p.front);
-        rose = subst (λ n. Rose n (faults c)) one.unfailed p.rose;
-      }
-
   sent_whole : (sent more w0 w1 w2 done lines : List ℕ) → sent ++ w1 ≡ w0 ++ done → more ++ w2 ≡ w1 ++ lines → (sent ++ more) ++ w2 ≡ w0 ++ (done ++ lines)
   sent_whole sent more w0 w1 w2 done lines one two = append_assoc sent more w2
       ∙ ap (λ (l : List ℕ). sent ++ l) two
@@ -71,7 +46,7 @@ module _ {K : Type 0} (put : K → Option (List ℕ)) (faults : K → ℕ) where
       → Tells put faults a c (w0 ++ (done ++ lines)) w2
   tells_then a b c w0 w1 w2 done lines one two = record {
     sent = one.sent ++ two.sent;
-    puts = puts_then a b c one.sent two.sent one.puts two.puts;
+    puts = puts_then put faults a b c one.sent two.sent one.puts two.puts;
     whole = sent_whole one.sent two.sent w0 w1 w2 done lines one.whole two.whole;
   }
 
@@ -80,12 +55,12 @@ module _ {K : Type 0} (put : K → Option (List ℕ)) (faults : K → ℕ) where
   fails_then a b c w0 w1 done lines one p =
       let whole : one.sent ++ (w1 ++ lines) ≡ w0 ++ (done ++ lines) =
       sym (append_assoc one.sent w1 lines) ∙ ap (λ (l : List ℕ). l ++ lines) one.whole ∙ append_assoc w0 done lines in
-      subst (PutsPart put faults a c) whole (part_then a b c one.sent (w1 ++ lines) one.puts p)
+      subst (PutsPart put faults a c) whole (part_then put faults a b c one.sent (w1 ++ lines) one.puts p)
 
   -- of some lines the first were told; they are the first of more
   pub stops_sooner : (a b : K) (w0 w1 lines rest : List ℕ) (fault : StreamFault) → TellsLines put faults a b {T = Unit {0}} w0 w1 lines (Err fault)
       → TellsLines put faults a b {T = Unit {0}} w0 w1 (lines ++ rest) (Err fault)
-  stops_sooner a b w0 w1 lines rest Failed p = subst (PutsPart put faults a b) (append_assoc w0 lines rest) (part_of_more a b (w0 ++ lines) rest p)
+  stops_sooner a b w0 w1 lines rest Failed p = subst (PutsPart put faults a b) (append_assoc w0 lines rest) (part_of_more put faults a b (w0 ++ lines) rest p)
   stops_sooner a b w0 w1 lines rest NoMemory t = (
     t.0,
     record { whole = t.1.whole; rest = t.1.rest ++ rest; front = ap (λ (l : List ℕ). l ++ rest) t.1.front ∙ append_assoc t.0 t.1.rest rest },
@@ -146,9 +121,9 @@ module _ {K : Type 0} (put : K → Option (List ℕ)) (faults : K → ℕ) where
   pub finishes_told : (a b c : K) (text waits end : List ℕ) (status result : ℕ) → Tells put faults a b text waits → Finishes put faults b c status (waits ++ end) result
       → Finishes put faults a c status (text ++ end) result
   finishes_told a b c text waits end status result told (inl all) =
-      inl (all.0, subst (PutsAll put faults a c) (sym (append_assoc told.sent waits end) ∙ ap (λ (l : List ℕ). l ++ end) told.whole) (puts_then a b c told.sent (waits ++ end) told.puts all.1))
+      inl (all.0, subst (PutsAll put faults a c) (sym (append_assoc told.sent waits end) ∙ ap (λ (l : List ℕ). l ++ end) told.whole) (puts_then put faults a b c told.sent (waits ++ end) told.puts all.1))
   finishes_told a b c text waits end status result told (inr part) =
-      inr (part.0, subst (PutsPart put faults a c) (sym (append_assoc told.sent waits end) ∙ ap (λ (l : List ℕ). l ++ end) told.whole) (part_then a b c told.sent (waits ++ end) told.puts part.1))
+      inr (part.0, subst (PutsPart put faults a c) (sym (append_assoc told.sent waits end) ∙ ap (λ (l : List ℕ). l ++ end) told.whole) (part_then put faults a b c told.sent (waits ++ end) told.puts part.1))
 
 module _ {K : Type 0} (put : K → Option (List ℕ)) (faults : K → ℕ) where
   -- how a session's text ends, by how its lines were told; nothing waited before

@@ -17,7 +17,7 @@ use Rattle.tao_base.specs.Causes.{Rose}
 use Rattle.taostore.specs.declared.output.End.{End}
 use Rattle.taostore.specs.declared.output.End.TheVariants.{Done, Refused, Broken, Unbuilt, SourceFailed, NoMemory}
 use Rattle.taostore.specs.Input.{TakesPrefix, TakesInput}
-use Rattle.taostore.specs.Output.{PutsAll, PutsPart}
+use Rattle.tao_base.specs.Transfers.{PutsAll, PutsPart}
 use Rattle.taostore.specs.Playing.{IsPlayed}
 use Rattle.taostore.specs.declared.session.Played.{Played}
 use Rattle.taostore.specs.declared.session.Played.TheVariants.{Whole, Part, Nothing}
@@ -62,18 +62,9 @@ module _ {K : Type 0} (put : K → Option (List ℕ)) (faults : K → ℕ) (old 
     pub no_memory : status ≡ 8 → Writes NoMemory
     pub known : (status ≡ 0) ⊎ ((status ≡ 2) ⊎ ((status ≡ 3) ⊎ ((status ≡ 4) ⊎ ((status ≡ 5) ⊎ (status ≡ 8)))))
 
--- the end of a call whose text wasn't read
-abbrev pub end_of : TextKind → TextFault → End
-end_of TextKind.NotText fault = Broken fault
-end_of TextKind.Word fault = Broken fault
-end_of TextKind.Number fault = Broken fault
-end_of TextKind.Hex fault = Broken fault
-end_of TextKind.Length fault = Broken fault
-end_of TextKind.Range fault = Broken fault
-end_of TextKind.Order fault = Broken fault
-end_of TextKind.TapeShort fault = Broken fault
-end_of TextKind.TooLong fault = Broken fault
-end_of TextKind.Memory fault = NoMemory
+-- the end of a call whose text wasn't read: its first break, or memory ran out
+abbrev pub IsEndOf : TextFault → End → Type 0
+IsEndOf fault end = ((fault.kind ≡ TextKind.Memory) × (end ≡ NoMemory)) ⊎ ((¬ (fault.kind ≡ TextKind.Memory)) × (end ≡ Broken fault))
 
 -- what is kept of the session, if it was opened
 abbrev pub kept_history : Option RecordState → Option History
@@ -86,7 +77,8 @@ SessionEnds h blocks Refused text = ⊥
 SessionEnds h blocks (Broken fault) text = ⊥
 SessionEnds h blocks (Unbuilt line) text = ⊥
 SessionEnds h blocks SourceFailed text = ⊥
-SessionEnds h blocks NoMemory text = (lines : List ℕ) × AreFirstLines lines (transcript h 0 (Some blocks) []) × (text ≡ lines ++ end_line NoMemory)
+SessionEnds h blocks NoMemory text = (lines : List ℕ) × AreFirstLines lines (transcript h 0 (Some blocks) [])
+    × (text ≡ lines ++ end_line NoMemory)
 
 -- the array after all arrivals of a session
 abbrev pub final_array : History → List (List ℕ)
@@ -143,7 +135,8 @@ module _ {S : Type 0} (left : S → Option (List ℕ)) (faults : S → ℕ) (old
 
   -- what was taken is no script, or one that can't be played yet
   abbrev pub TakesUnplayed : Type 0
-  TakesUnplayed = ((fault : TextFault) × TakesBroken fault) ⊎ ((script : Script) × (line : ℕ) × TakesScript script × (unbuilt_line script ≡ Some line))
+  TakesUnplayed = ((fault : TextFault) × TakesBroken fault)
+      ⊎ ((script : Script) × (line : ℕ) × TakesScript script × (unbuilt_line script ≡ Some line))
 
   -- what was taken is a script that can be played
   abbrev pub TakesPlayed : Script → Type 0
@@ -162,9 +155,12 @@ module _ {S : Type 0} (left : S → Option (List ℕ)) (faults : S → ℕ) (old
   PlayEnds kept Done text = (script : Script) × TakesPlayed script × ScriptEnds script kept Done text
   PlayEnds kept Refused text = ⊥
   PlayEnds kept (Broken fault) text = TakesBroken fault × (kept ≡ None) × (text ≡ end_line (Broken fault))
-  PlayEnds kept (Unbuilt line) text = ((script : Script) × TakesScript script × (unbuilt_line script ≡ Some line)) × (kept ≡ None) × (text ≡ end_line (Unbuilt line))
-  PlayEnds kept SourceFailed text = TakesPrefix left old new × Rose (faults old) (faults new) × (kept ≡ None) × (text ≡ end_line SourceFailed)
-  PlayEnds kept NoMemory text = TakesPrefix left old new × (((kept ≡ None) × (text ≡ end_line NoMemory)) ⊎ ((script : Script) × TakesPlayed script × ScriptEnds script kept NoMemory text))
+  PlayEnds kept (Unbuilt line) text = ((script : Script) × TakesScript script × (unbuilt_line script ≡ Some line))
+      × (kept ≡ None) × (text ≡ end_line (Unbuilt line))
+  PlayEnds kept SourceFailed text = TakesPrefix left old new × Rose (faults old) (faults new)
+      × (kept ≡ None) × (text ≡ end_line SourceFailed)
+  PlayEnds kept NoMemory text = TakesPrefix left old new
+      × (((kept ≡ None) × (text ≡ end_line NoMemory)) ⊎ ((script : Script) × TakesPlayed script × ScriptEnds script kept NoMemory text))
 
 -- what the source holds is the text of this script, and it can be played
 abbrev pub HoldsPlayed : {S : Type 0} → (S → Option (List ℕ)) → S → Script → Type 0

@@ -28,10 +28,14 @@ module _ {S K : Type 0} (left : S → Option (List ℕ)) (faults : S → ℕ) (p
     -- each cause has its answer, if memory suffices: the words first, then the source, then the grammar; the sink's before all
     pub record CausesHaveAnswers : Type 0 where
       pub refused : AreRefused words → ¬ Rose (sunk sink) (sunk sink') → status ≡ 2
-      pub unfailed : AskToPlay words → ¬ Rose (faults source) (faults source') → ¬ Rose (sunk sink) (sunk sink') → (status ≡ 0) ⊎ ((status ≡ 3) ⊎ (status ≡ 8))
-      pub source_failed : AskToPlay words → ¬ (faults source' ≡ faults source) → ¬ Rose (sunk sink) (sunk sink') → (status ≡ 4) ⊎ (status ≡ 8)
-      pub unplayed : AskToPlay words → HoldsUnplayed left source → ¬ Rose (faults source) (faults source') → ¬ Rose (sunk sink) (sunk sink') → (status ≡ 3) ⊎ (status ≡ 8)
-      pub played : AskToPlay words → (script : Script) → HoldsPlayed left source script → ¬ Rose (faults source) (faults source') → ¬ Rose (sunk sink) (sunk sink') → (status ≡ 0) ⊎ (status ≡ 8)
+      pub unfailed : AskToPlay words → ¬ Rose (faults source) (faults source') → ¬ Rose (sunk sink) (sunk sink')
+          → (status ≡ 0) ⊎ ((status ≡ 3) ⊎ (status ≡ 8))
+      pub source_failed : AskToPlay words → ¬ (faults source' ≡ faults source) → ¬ Rose (sunk sink) (sunk sink')
+          → (status ≡ 4) ⊎ (status ≡ 8)
+      pub unplayed : AskToPlay words → HoldsUnplayed left source → ¬ Rose (faults source) (faults source') → ¬ Rose (sunk sink) (sunk sink')
+          → (status ≡ 3) ⊎ (status ≡ 8)
+      pub played : AskToPlay words → (script : Script) → HoldsPlayed left source script → ¬ Rose (faults source) (faults source')
+          → ¬ Rose (sunk sink) (sunk sink') → (status ≡ 0) ⊎ (status ≡ 8)
       pub sink_failed : ¬ (sunk sink' ≡ sunk sink) → status ≡ 5
 
     -- what was put before stays, and refused words take and keep nothing
@@ -42,18 +46,22 @@ module _ {S K : Type 0} (left : S → Option (List ℕ)) (faults : S → ℕ) (p
 
   -- `play_top` ends as the program does on the one word `play`
   abbrev pub PlayIsProgram : Type 0
-  PlayIsProgram = (source source' : S) (sink sink' : K) (status : ℕ) (kept : Option RecordState) → EndsAs put sunk sink sink' (PlayEnds left faults source source' (kept_history kept)) status
+  PlayIsProgram = (source source' : S) (sink sink' : K) (status : ℕ) (kept : Option RecordState)
+      → EndsAs put sunk sink sink' (PlayEnds left faults source source' (kept_history kept)) status
       → ProgramEnds (codes "play" ∷ []) source source' sink sink' status kept
 
   -- however the program ends
   abbrev pub HaveCauses : Type 0
-  HaveCauses = (words : List (List ℕ)) (source source' : S) (sink sink' : K) (status : ℕ) (kept : Option RecordState) → ProgramEnds words source source' sink sink' status kept
+  HaveCauses = (words : List (List ℕ)) (source source' : S) (sink sink' : K) (status : ℕ) (kept : Option RecordState)
+      → ProgramEnds words source source' sink sink' status kept
       → AnswersHaveCauses words source source' sink sink' status
 
   abbrev pub HaveAnswers : Type 0
-  HaveAnswers = (words : List (List ℕ)) (source source' : S) (sink sink' : K) (status : ℕ) (kept : Option RecordState) → ProgramEnds words source source' sink sink' status kept
+  HaveAnswers = (words : List (List ℕ)) (source source' : S) (sink sink' : K) (status : ℕ) (kept : Option RecordState)
+      → ProgramEnds words source source' sink sink' status kept
       → CausesHaveAnswers words source source' sink sink' status
 
   abbrev pub TouchLittle : Type 0
-  TouchLittle = (words : List (List ℕ)) (source source' : S) (sink sink' : K) (status : ℕ) (kept : Option RecordState) → ProgramEnds words source source' sink sink' status kept
+  TouchLittle = (words : List (List ℕ)) (source source' : S) (sink sink' : K) (status : ℕ) (kept : Option RecordState)
+      → ProgramEnds words source source' sink sink' status kept
       → TouchesLittle words source source' sink sink' status kept

@@ -1,9 +1,9 @@
 -- What a call has given to its sink, which is seen by the bytes that were put and by its count of faults. It may fail at any write.
-use Rattle.std.specs.Prelude.{◌≡◌, ◌⊎◌, ℕ, ◌<◌, List, ◌++◌, length, take, flat_map, Option, Some, Result, Ok, Err}
+use Rattle.std.specs.Prelude.{◌≡◌, ◌⊎◌, ℕ, List, ◌++◌, length, flat_map, Option, Some, Result, Ok, Err}
 use Rattle.std.specs.Borrow.{Bor}
 use Rattle.std.specs.Io.KnownBytes.{Appends}
-use Rattle.tao_base.specs.Causes.{Rose}
 use Rattle.tao_base.specs.Session.{History}
+use Rattle.tao_base.specs.Transfers.{PutsAll, PutsPart}
 use Rattle.tao_model.specs.Transcript.{opening_lines, closing_lines}
 use Rattle.tao_trace.specs.Printing.{lines_before}
 use Rattle.tao_trace.specs.WholeLines.{AreFirstLines}
@@ -19,32 +19,20 @@ abbrev pub joined : List (Bor (List ℕ)) → List ℕ
 joined pieces = flat_map (λ piece. piece.now) pieces
 
 module _ {K : Type 0} (put : K → Option (List ℕ)) (faults : K → ℕ) (old new : K) where
-  -- the whole text was put, and no write failed
-  pub record PutsAll (text : List ℕ) : Type 0 where
-    pub whole : Appends (put old) (put new) text
-    pub unfailed : faults new ≡ faults old
-
-  -- a write failed, and of the text only a prefix was put
-  pub record PutsPart (text : List ℕ) : Type 0 where
-    pub part : ℕ
-    pub short : part < length text
-    pub front : Appends (put old) (put new) (take part text)
-    pub rose : Rose (faults old) (faults new)
-
   -- a call that is to end with this status and text does so; or the sink fails, and the call ends with 5
   abbrev pub Finishes : ℕ → List ℕ → ℕ → Type 0
-  Finishes status text result = ((result ≡ status) × PutsAll text) ⊎ ((result ≡ 5) × PutsPart text)
+  Finishes status text result = ((result ≡ status) × PutsAll put faults old new text) ⊎ ((result ≡ 5) × PutsPart put faults old new text)
 
   -- a text was told: all of it was put but what still waits behind it
   pub record Tells (text waiting : List ℕ) : Type 0 where
     pub sent : List ℕ
-    pub puts : PutsAll sent
+    pub puts : PutsAll put faults old new sent
     pub whole : sent ++ waiting ≡ text
 
   -- behind what waited these lines are told; where memory runs out the first of them, and where the sink fails a part of it all is put
   abbrev pub TellsLines : {T : Type 0} → List ℕ → List ℕ → List ℕ → Result T StreamFault → Type 0
   TellsLines waited waits lines (Ok done) = Tells (waited ++ lines) waits
-  TellsLines waited waits lines (Err Failed) = PutsPart (waited ++ lines)
+  TellsLines waited waits lines (Err Failed) = PutsPart put faults old new (waited ++ lines)
   TellsLines waited waits lines (Err NoMemory) = (some : List ℕ) × AreFirstLines some lines × Tells (waited ++ some) waits
 
 -- more bytes were put behind those that were there

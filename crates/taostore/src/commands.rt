@@ -27,9 +27,11 @@ pub fn taostore<S: Source, K: Sink>(
     requires { IsNone kept.old.history }
 
     ensures refused { AreRefused (map string_bytes words.now)
-        → EndsAs K.put K.faults sink.old sink.new (RefusedEnds S.left S.faults source.old source.new (kept_history kept.new.history)) result }
+        → EndsAs K.put K.faults sink.old sink.new
+        (RefusedEnds S.left S.faults source.old source.new (kept_history kept.new.history)) result }
     ensures play { AskToPlay (map string_bytes words.now)
-        → EndsAs K.put K.faults sink.old sink.new (PlayEnds S.left S.faults source.old source.new (kept_history kept.new.history)) result }
+        → EndsAs K.put K.faults sink.old sink.new
+        (PlayEnds S.left S.faults source.old source.new (kept_history kept.new.history)) result }
 {
     if is_play(words) {
         play_top(alloc, source, sink, kept)

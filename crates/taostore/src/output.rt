@@ -1,11 +1,12 @@
 //! The end of an output: its last line, and the status that goes with it.
 ghost use Rattle.std.specs.Prelude.{◌≡◌, ◌++◌, OnOk, OnErr};
-ghost use Rattle.taostore.specs.Output.{Finishes, PutsAll, PutsPart};
+ghost use Rattle.tao_base.specs.Transfers.{PutsAll, PutsPart};
+ghost use Rattle.taostore.specs.Output.{Finishes};
 ghost use Rattle.taostore.specs.Endings.{break_line, end_line, status_of};
 
-use crate::writing::{put_all, put_pieces};
+use crate::writing::put_pieces;
 use itoa::Buffer;
-use tao_base::{Failed, Sink};
+use tao_base::{Failed, Sink, write_all};
 use tao_text::TextFault;
 
 /// How a call ends where its sink takes all.
@@ -60,12 +61,12 @@ pub fn finish_text<K: Sink>(sink: &mut K, text: &[u8], end: End) -> u8
     }
 }
 
-#[tactic(auto, using(crate::proofs::Telling::puts_then, crate::proofs::Telling::part_of_more, crate::proofs::Telling::part_then))]
+#[tactic(auto, using(tao_base::proofs::TransferLemmas::puts_then, tao_base::proofs::TransferLemmas::part_of_more, tao_base::proofs::TransferLemmas::part_then))]
 fn put_text_and_end<K: Sink>(sink: &mut K, text: &[u8], end: End) -> Result<(), Failed>
     ensures ok { OnOk result (PutsAll K.put K.faults sink.old sink.new (text.now ++ end_line end)) }
     ensures err { OnErr result (PutsPart K.put K.faults sink.old sink.new (text.now ++ end_line end)) }
 {
-    put_all(sink, text)?;
+    write_all(sink, text)?;
     put_end(sink, end)
 }
 
@@ -75,12 +76,12 @@ fn put_end<K: Sink>(sink: &mut K, end: End) -> Result<(), Failed>
     ensures err { OnErr result (PutsPart K.put K.faults sink.old sink.new (end_line end)) }
 {
     match end {
-        End::Done => put_all(sink, b"end 0\n"),
-        End::Refused => put_all(sink, b"end 2\n"),
+        End::Done => write_all(sink, b"end 0\n"),
+        End::Refused => write_all(sink, b"end 2\n"),
         End::Broken(fault) => put_break(sink, fault.line, fault.kind.name()),
         End::Unbuilt(line) => put_break(sink, line, "Unbuilt"),
-        End::SourceFailed => put_all(sink, b"end 4\n"),
-        End::NoMemory => put_all(sink, b"end 8\n"),
+        End::SourceFailed => write_all(sink, b"end 4\n"),
+        End::NoMemory => write_all(sink, b"end 8\n"),
     }
 }
 

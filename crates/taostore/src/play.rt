@@ -1,7 +1,7 @@
 //! The command `play`, which plays a script.
 ghost use Rattle.std.specs.Prelude.{◌≡◌, ◌^◌, ◌+◌, None, IsNone, IfOk, IfErr};
 ghost use Rattle.tao_text.specs.Texts.{IsScript};
-ghost use Rattle.taostore.specs.Endings.{EndsAs, PlayEnds, ScriptEnds, PlayedEnds, IsLawfullyPlayed, TakesPlayed, kept_history, end_line, end_of};
+ghost use Rattle.taostore.specs.Endings.{EndsAs, PlayEnds, ScriptEnds, PlayedEnds, IsLawfullyPlayed, TakesPlayed, kept_history, end_line, IsEndOf};
 ghost use Rattle.taostore.specs.Unbuilt.{IsPlayable};
 
 use crate::commands::Kept;
@@ -28,7 +28,8 @@ pub fn play_top<S: Source, K: Sink>(
 ) -> u8
     requires { IsNone kept.old.history }
 
-    ensures { EndsAs K.put K.faults sink.old sink.new (PlayEnds S.left S.faults source.old source.new (kept_history kept.new.history)) result }
+    ensures { EndsAs K.put K.faults sink.old sink.new
+        (PlayEnds S.left S.faults source.old source.new (kept_history kept.new.history)) result }
 {
     match take_script(alloc, source) {
         Ok(script) => play_script(alloc, script, sink, kept),
@@ -61,7 +62,7 @@ fn take_script<S: Source>(alloc: Global, source: &mut S) -> Result<Script, End>
 
 // How a call ends whose text wasn't read.
 fn end_of(fault: TextFault) -> End
-    ensures { result ≡ end_of fault.kind fault }
+    ensures { IsEndOf fault result }
 {
     match fault.kind {
         TextKind::Memory => End::NoMemory,

@@ -1,5 +1,6 @@
 use Rattle.std.proofs.Common.{take}
-use Rattle.taostore.specs.Output.{PutsAll, joined}
+use Rattle.tao_base.specs.Transfers.{PutsAll}
+use Rattle.taostore.specs.Output.{joined}
 use Rattle.taostore.proofs.writing.put_pieces.Given as goal
 
 abbrev pub invariant-loop-piece : goal.invariant-loop-piece
