@@ -8,7 +8,6 @@ ghost use Rattle.tao_flush.specs.State.{leaf_in};
 ghost use Rattle.tao_flush.specs.Blocks.{IsStash, AreNodeEntries};
 ghost use Rattle.tao_flush.specs.Loads.{IsLoaded, LoadsNext, bucket_of, has_room};
 
-use crate::placing::{push_rest, push_within};
 use crate::positions::Positions;
 use crate::stash::{Stash, most_copies};
 use std::alloc::Global;
@@ -86,7 +85,7 @@ fn keep(rest: &mut Vec<Entry>, back: Option<Entry>)
     ensures capacity { vec_capacity rest.old ≤ vec_capacity rest.new }
 {
     if let Some(entry) = back {
-        push_rest(rest, entry);
+        rest.push_reserved(entry);
     }
 }
 
@@ -118,7 +117,7 @@ fn add_to(bucket: &mut Bucket, entry: Entry)
     requires { length bucket.old.entries < 8 }
     ensures { bucket.new ≡ record bucket.old { entries = bucket.old.entries ++ entry ∷ [] } }
 {
-    push_within(&mut bucket.entries, entry);
+    bucket.entries.push_reserved(entry);
 }
 
 // The depth of the deepest node on the leaf's path that has room.

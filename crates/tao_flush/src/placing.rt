@@ -68,8 +68,8 @@ impl Eviction<'_> {
     {
         let own = self.positions.leaf(entry.id);
         match deepest_with_room(&self.p, self.leaf, own, path) {
-            Some(depth) => push_within(&mut path[depth as usize], entry),
-            None => push_rest(rest, entry),
+            Some(depth) => path[depth as usize].push_reserved(entry),
+            None => rest.push_reserved(entry),
         }
     }
 }
@@ -103,28 +103,4 @@ fn shared_depth(p: &Params, leaf: u32, other: u32) -> u32
     ensures shared { AreShared p.now.l leaf other result }
 {
     p.l() - (32 - (other ^ leaf).leading_zeros())
-}
-
-/// Adds an entry to the rest, which has room.
-pub(crate) fn push_rest(rest: &mut Vec<Entry>, entry: Entry)
-    requires { vec_len rest.old < vec_capacity rest.old }
-    ensures items { rest.new.items ≡ rest.old.items ++ entry ∷ [] }
-    ensures len { vec_len rest.new ≡ vec_len rest.old + 1 }
-    ensures capacity { vec_capacity rest.old ≤ vec_capacity rest.new }
-{
-    match rest.push(entry) {
-        Ok(()) => {}
-        Err(_) => unreachable!(),
-    }
-}
-
-/// Adds an entry to a node that has room.
-pub(crate) fn push_within(list: &mut Entries, entry: Entry)
-    requires { length list.old < 8 }
-    ensures { list.new ≡ list.old ++ entry ∷ [] }
-{
-    match list.push(entry) {
-        Ok(()) => {}
-        Err(_) => unreachable!(),
-    }
 }

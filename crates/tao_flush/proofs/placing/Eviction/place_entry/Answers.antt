@@ -8,7 +8,7 @@ returns-in-Some-clause-placed c =
     let deepest = rw c.leaf-own.ensures.value at c.in-Some.ensures.deepest in
     let other : leaf_in c.args.self.now.positions.now c.args.entry.id < 2 ^ c.args.self.now.p.l =
     subst (λ s. leaf_in c.args.self.now.positions.now c.args.entry.id < 2 ^ s.l) c.requires.eviction.1 (rw c.leaf-own.ensures.value at c.leaf-own.ensures.leaf) in
-    rw c.push_within.ensures
+    rw c.push_reserved.ensures
     (places_there c.args.self.now.p c.args.self.now.leaf (leaf_in c.args.self.now.positions.now) c.args.path.now c.args.rest.now.items c.args.entry c.in-Some.depth c.index-path-depth.result c.requires.eviction.0 other deepest)
 
 pub returns-in-None-clause-placed : goal.returns-in-None-clause-placed
@@ -16,5 +16,5 @@ returns-in-None-clause-placed c =
     let deepest = rw c.leaf-own.ensures.value at c.in-None.ensures.deepest in
     let other : leaf_in c.args.self.now.positions.now c.args.entry.id < 2 ^ c.args.self.now.p.l =
     subst (λ s. leaf_in c.args.self.now.positions.now c.args.entry.id < 2 ^ s.l) c.requires.eviction.1 (rw c.leaf-own.ensures.value at c.leaf-own.ensures.leaf) in
-    rw c.push_rest.ensures.items
+    rw c.push_reserved-in-None.ensures.items
     (places_none c.args.self.now.p c.args.self.now.leaf (leaf_in c.args.self.now.positions.now) c.args.path.now c.args.rest.now.items c.args.entry c.requires.eviction.0 other deepest)
