@@ -8,7 +8,7 @@ use crate::failures::Failed;
 use crate::sinks::Sink;
 use crate::sources::Source;
 
-/// Writes all bytes. Nothing is written after a write that failed.
+/// Writes all bytes. On Err a write has failed, and only a prefix was written.
 pub fn write_all<K: Sink>(sink: &mut K, bytes: &[u8]) -> Result<(), Failed>
     ensures ok { OnOk result (PutsAll K.put K.faults sink.old sink.new bytes.now) }
     ensures err { OnErr result (PutsPart K.put K.faults sink.old sink.new bytes.now) }

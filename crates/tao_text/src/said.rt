@@ -4,7 +4,7 @@ use crate::script::What;
 use tao_base::{Block, Entry, Form, Image, Numbers};
 
 /// A parsed line, by its first word.
-#[derive(Debug, Drop)]
+#[derive(Drop)]
 pub(crate) enum Said {
     /// `tree L Z B N k`
     Tree(u32, u32, u32, u32, u32),

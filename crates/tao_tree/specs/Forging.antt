@@ -8,7 +8,7 @@ use Rattle.tao_tree.specs.Ledgers.{LedgerState}
 use Rattle.tao_tree.specs.Nodes.{IsSomePath}
 use Rattle.tao_tree.specs.declared.forgeries.Forgery.{Forgery}
 
--- one byte xored, where there is such a byte
+-- one byte xored, if there is such a byte
 abbrev pub xored_at : List ℕ → ℕ → ℕ → List ℕ
 xored_at bytes at mask = if nat_lt at (length bytes) then slice_set bytes at (bit_xor (slice_index bytes at) mask) else bytes
 
@@ -26,8 +26,8 @@ pub record IsForgedPath (s : Shape) (leaf : ℕ) (forgeries : List Forgery) (cal
   pub is_path : IsSomePath s leaf honest
   pub altered : path ≡ forged forgeries call honest
 
--- the tree's parameters; what was told; for how many more calls there is room, and for how many more buckets of stores; the numbers of the
--- calls that fail; how many calls there were, and how many failed; the forgeries
+-- the tree's parameters; the log and its capacity in calls and in buckets of stores; the numbers of the calls that fail; how many calls
+-- there were, and how many failed; the forgeries
 pub record LinkState : Type 0 where
   pub shape : Shape
   pub told : Told
@@ -38,7 +38,7 @@ pub record LinkState : Type 0 where
   pub faults : ℕ
   pub forgeries : List Forgery
 
--- there is room for a call, and for so many buckets where it is a store
+-- the log has capacity for a call, and for so many buckets if it is a store
 abbrev pub has_room : LinkState → ℕ → Bool
 has_room s buckets = nat_lt 0 s.room && nat_le buckets s.buckets
 
@@ -46,7 +46,7 @@ has_room s buckets = nat_lt 0 s.room && nat_le buckets s.buckets
 abbrev pub called : LinkState → LinkState
 called s = record s { calls = one_more s.calls }
 
--- a call is counted and told, and there is room for one call less and so many buckets fewer
+-- a call is counted and logged, and takes capacity for itself and for so many buckets
 abbrev pub telling : LinkState → Asked → ℕ → LinkState
 telling s asked buckets = record (called s) { told = told (s.told.asked ++ asked ∷ []) s.told.answers s.told.stored; room = s.room - 1; buckets = s.buckets - buckets }
 
@@ -58,11 +58,11 @@ with_answer s path = record s { told = told s.told.asked (s.told.answers ++ path
 abbrev pub with_stored : LinkState → ℕ → LinkState
 with_stored s version = record s { told = told s.told.asked s.told.answers (s.told.stored ++ version ∷ []) }
 
--- a call failed: it is told where there is room, and counts in either case
+-- a call failed: it is logged if there is capacity, and counts in either case
 abbrev pub failed : LinkState → Asked → ℕ → LinkState
 failed s asked buckets = record (if has_room s buckets then telling s asked buckets else called s) { faults = one_more s.faults }
 
--- a link that was just made: nothing is told, and there is no room
+-- a new link: its log is empty and without capacity
 abbrev pub new_link : Shape → List ℕ → LinkState
 new_link s fails = record { shape = s; told = told [] [] []; room = 0; buckets = 0; fails = fails; calls = 0; faults = 0; forgeries = [] }
 

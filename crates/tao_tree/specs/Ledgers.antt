@@ -1,4 +1,4 @@
--- What a link in memory was asked and what came of it, how it lies in memory, and the room for more.
+-- The log of a link in memory: its calls and what came of them, how they lie in memory, and the capacity for more.
 use Rattle.std.specs.Prelude.{◌≡◌, ℕ, ◌+◌, ◌-◌, List, [], ◌∷◌, ◌++◌, length, take, drop}
 use Rattle.tao_base.specs.Links.{Told, told}
 use Rattle.tao_base.specs.declared.links.Asked.{Asked}
@@ -6,7 +6,7 @@ use Rattle.tao_base.specs.declared.links.Asked.TheVariants.{Fetch, Store}
 use Rattle.tao_tree.specs.declared.ledger.Note.{Note}
 use Rattle.tao_tree.specs.declared.ledger.Note.TheVariants.{Fetched, Sent}
 
--- what was told so far, for how many more calls there is room, and for how many more buckets of stores; the lengths of a path and a bucket
+-- the log so far; its capacity in calls and in buckets of stores; the lengths of a path and a bucket
 pub record LedgerState : Type 0 where
   pub told : Told
   pub calls : ℕ
@@ -14,7 +14,7 @@ pub record LedgerState : Type 0 where
   pub path_len : ℕ
   pub bucket_len : ℕ
 
--- the ledger of a link that was just made, for paths and buckets of these lengths: nothing is told, and there is no room
+-- the log of a new link, for paths and buckets of these lengths: empty and without capacity
 abbrev pub nothing : ℕ → ℕ → LedgerState
 nothing path_len bucket_len = record { told = told [] [] []; calls = 0; buckets = 0; path_len = path_len; bucket_len = bucket_len }
 
@@ -46,7 +46,7 @@ pub record AreNoted (notes : List Note) (nodes images : List ℕ) : Type 0 where
 abbrev pub HasLen : ℕ → List ℕ → Type 0
 HasLen len bytes = length bytes ≡ len
 
--- a call was asked, and there is room for one call less
+-- a call is logged, and takes capacity
 abbrev pub asked : LedgerState → Asked → ℕ → LedgerState
 asked s call buckets = record s { told = told (s.told.asked ++ call ∷ []) s.told.answers s.told.stored; calls = s.calls - 1; buckets = s.buckets - buckets }
 
