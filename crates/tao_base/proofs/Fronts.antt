@@ -1,4 +1,4 @@
--- The front of a list that was written.
+-- The prefix of a list that was written.
 use Rattle.std.proofs.Common.{◌<◌, ◌-◌, min, ◌≡◌, ℕ, ◌≤◌, ◌+◌, List, [], ◌++◌, length, take, drop, append-nil, sym, ap, ◌∙◌, arith}
 use Rattle.std.proofs.lemmas.List.{length-take-le, length-drop, take-append-le, drop-append-le, take-take, take-append-drop, drop-drop, drop_all, take_all}
 use Rattle.tao_base.specs.Items.{with_front}
@@ -20,7 +20,7 @@ rest_copied n xs room h =
 pub left_after : {X : Type 0} (at n : ℕ) (xs : List X) → drop at xs ≡ take n (drop at xs) ++ drop (at + n) xs
 left_after at n xs = sym (ap (λ rest. take n (drop at xs) ++ rest) (sym (drop-drop n at xs)) ∙ take-append-drop n (drop at xs))
 
--- where none of the bytes were copied to a room that has room, none were left
+-- where no byte was copied to a room that isn't empty, none was left
 pub all_left : {X : Type 0} (at n room : ℕ) (xs : List X) → n ≡ min (length (drop at xs)) room → n ≡ 0 → 0 < room → drop (at + n) xs ≡ []
 all_left at n room xs count none some = let e : length (drop at xs) ≡ length xs - at = length-drop at xs in drop_all (at + n) xs (omega arith)
 

@@ -21,7 +21,7 @@ pub trait Source {
     /// What a stream, which is a sink too, tells of that half: its faults and the bytes put. A plain source has (0, None).
     ghost beside: { Self → ℕ × Option (List ℕ) };
 
-    /// Puts bytes at the front of the room and says how many: none only at the end.
+    /// Reads into a prefix of the room and says how many bytes: none only at the end.
     fn read(&mut self, room: &mut [u8]) -> Result<usize, Failed>
         requires { 0 < length room.old }
         ensures bound { ReadsAtMost result room.new }
@@ -103,7 +103,7 @@ impl Source for ByteSource {
 }
 
 #[tactic(auto, using(crate::proofs::Fronts::take_copied, crate::proofs::Fronts::rest_copied, std::proofs::lemmas::List::take_rest))]
-// Copies to the front of the room as many of the bytes from `at` on as fit, and says how many.
+// Copies as many of the bytes from `at` on as fit into a prefix of the room, and says how many.
 fn copy_from(bytes: &[u8], at: usize, room: &mut [u8]) -> usize
     requires { at ≤ length bytes.now }
     ensures count { result ≡ min (length (drop at bytes.now)) (length room.old) }

@@ -239,7 +239,7 @@ gathered_ready p h h1 tape array words server sliced room taken n leaf shape sam
       ),
     )
 
--- what is taken in is the newest write of each node
+-- what is fetched is the latest version of each node
 taken_written : (p : Shape) (h : History) (tape : List ℕ) (array : List (List ℕ)) (words : List ℕ) (server sliced room taken : List Bucket) (n leaf : ℕ)
     → p ≡ h.opening.shape → IsDesk h tape array words server room n → leaf < 2 ^ p.l → sliced ≡ server → taken ≡ map (bucket_at sliced) (path p.l leaf)
     → All (λ b. newest_write h.opening (reverse h.events) b.node ≡ Some b) taken

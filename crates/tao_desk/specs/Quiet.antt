@@ -19,14 +19,14 @@ use Rattle.tao_model.specs.Lawful.{FollowsLawfully, IsInRange}
 use Rattle.tao_model.specs.Trace.{nodes_in}
 use Rattle.tao_desk.specs.Whole.{empty_bucket}
 
--- what the server has at a node is its newest write, without entries
+-- what the server has at a node is its latest version, without entries
 pub record IsServed (o : Opening) (es : List Event) (w : ℕ) (bucket : Bucket) : Type 0 where
   pub written : newest_write o es w ≡ Some bucket
   pub version : newest_version es w ≡ bucket.version
   pub node : bucket.node ≡ w
   pub empty : bucket.entries ≡ []
 
--- n arrivals, each done, written back and acknowledged; nothing is resident; the server has the newest writes
+-- n arrivals, each done, written back and acknowledged; nothing is resident; the server has the latest versions
 pub record IsQuiet (o : Opening) (es : List Event) (n : ℕ) (server : ℕ → Bucket) : Type 0 where
   pub follows : FollowsLawfully o es
   pub once : o.shape.k ≡ 1
@@ -101,7 +101,7 @@ pub record IsDesk (h : History) (tape : List ℕ) (blocks : List (List ℕ)) (pl
   pub path_empty : AreEmpty path
   pub within : n ≤ session_limit h.opening.shape
 
--- One more operation that may be played keeps the desk quiet: its path is taken in from the server, stamped anew and stored.
+-- One more operation that may be played keeps the desk quiet: its path is fetched from the server, stamped anew and stored.
 abbrev pub QuietStep : Type 0
 QuietStep = (o : Opening) (es : List Event) (n : ℕ) (server new : ℕ → Bucket) (client : ℕ) (op : Op) (word leaf nonce : ℕ) (buckets : List Bucket)
     → IsQuiet o es n server → MayPlay o n client op → leaf ≡ fetched_leaf o (Arrive client op word ∷ es) n

@@ -1,4 +1,4 @@
--- Whole operations: each arrival is fetched, taken in, written back and acknowledged before the next one comes.
+-- Whole operations: each arrival is fetched, done, written back and acknowledged before the next one comes.
 use Rattle.std.specs.Prelude.{◌≡◌, ℕ, ◌+◌, ◌-◌, ◌==◌, nat_lt, List, [], ◌∷◌, ◌++◌, map, take, length, reverse, Option, Some, None, if◌then◌else◌, All}
 use Rattle.std.specs.List.{range_with_len}
 use Rattle.tao_base.specs.declared.calls.Op.{Op}
@@ -42,14 +42,14 @@ arrivals_of h = arrived (reverse h.events)
 unfoldable pub words_left : DeskState → ℕ
 words_left d = length d.tape - (d.history.opening.shape.n + arrivals_of d.history)
 
--- the record goes on lawfully, owes no write-back, and what was taken in is what was written
+-- the record is lawful and owes no write-back, and what was fetched is what was written
 pub record IsSound (h : History) : Type 0 where
   pub follows : FollowsLawfully h.opening (reverse h.events)
   pub owes : OwesNone h.opening (reverse h.events)
   pub unaltered : Unaltered HasEntriesOf h.opening (reverse h.events)
 
 -- One more whole operation: four events, of the next arrival, its Done, the write-back that this fills and its acknowledgement.
--- Each bucket that is taken in is the newest write of its node, whole; those that are written back have no entries.
+-- Each fetched bucket is the latest version of its node, whole; those that are written back have no entries.
 pub record PlaysOne (old new : History) (client : ℕ) (op : Op) (word : ℕ) : Type 0 where
   pub taken : List Bucket
   pub nonce : ℕ

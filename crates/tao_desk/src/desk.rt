@@ -32,7 +32,7 @@ pub struct Desk {
     // the word of each block's position
     places: Numbers,
     server: Buckets,
-    // room for the buckets of a path
+    // the buckets of the path in work
     path: Buckets,
     arrivals: u32,
 }
@@ -205,7 +205,7 @@ fn leaf_of(p: &Params, word: u32) -> u32
     word % (1 << p.l())
 }
 
-// Makes room in the record for one operation.
+// Preallocates the record's space for one operation.
 fn make_room(session: &mut Record) -> Result<(), ArriveFault>
     ensures history { session.new.history ≡ session.old.history }
     ensures dones { OnOk result (0 < session.new.dones) }
@@ -229,7 +229,7 @@ fn first_nonce(p: &Params, arrival: u32) -> u64
 }
 
 #[tactic(auto, using(crate::proofs::DeskStep::fits_room, crate::proofs::DeskStep::one_path_room))]
-// Adds the four events of an operation. The path's buckets are those that were taken in; they become those of the write-back.
+// Adds the four events of an operation. The path comes with the fetched buckets and leaves with those written back.
 fn add_four(
     session: &mut Record,
     client: u32,

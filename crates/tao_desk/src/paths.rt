@@ -1,4 +1,4 @@
-//! The buckets of a path: taken from the server, stamped for a write-back, and stored there.
+//! The buckets of a path: fetched from the server, stamped for a write-back, and stored there.
 ghost use Rattle.std.specs.Prelude.{◌≡◌, ◌+◌, ◌^◌, ◌<◌, ◌≤◌, length, map, All};
 ghost use Rattle.tao_base.specs.Tree.{node_count, path};
 ghost use Rattle.tao_model.specs.Trace.{nodes_in};
@@ -6,7 +6,7 @@ ghost use Rattle.tao_desk.specs.Quiet.{AreEmpty, AreStamped, Stores, bucket_at, 
 
 use tao_base::{Bucket, Buckets, Params, path_node};
 
-// Makes the list the buckets of a path, root first.
+// Fetches the buckets of a path into the list, root first.
 #[tactic(auto, using(tao_base::proofs::Fronts::with_front_all))]
 pub fn gather_to(p: &Params, leaf: u32, server: &[Bucket], buckets: &mut Buckets)
     requires leaf { leaf < 2 ^ p.now.l }
@@ -19,7 +19,7 @@ pub fn gather_to(p: &Params, leaf: u32, server: &[Bucket], buckets: &mut Buckets
     gather(p, leaf, server, buckets.as_mut_slice());
 }
 
-// Gives the buckets of the list a version, and nonces that count on.
+// Gives the buckets of the list a version, and consecutive nonces.
 #[tactic(auto, using(tao_base::proofs::Fronts::with_front_all))]
 pub fn stamp_all(buckets: &mut Buckets, version: u32, nonce: u64)
     requires small { nonce + length buckets.old < 2 ^ 64 }
@@ -30,7 +30,7 @@ pub fn stamp_all(buckets: &mut Buckets, version: u32, nonce: u64)
     stamp(buckets.as_mut_slice(), version, nonce);
 }
 
-// Puts buckets to their nodes in the list of all.
+// Stores buckets at their nodes in the list of all.
 #[tactic(auto, using(tao_base::proofs::Fronts::with_front_all))]
 pub fn store_to(buckets: &[Bucket], server: &mut Buckets)
     requires nodes { All (λ bucket. bucket.node ≤ length server.old) buckets.now }
@@ -59,7 +59,7 @@ fn gather(p: &Params, leaf: u32, server: &[Bucket], buckets: &mut [Bucket])
     }
 }
 
-// Gives the buckets a version, and nonces that count on.
+// Gives the buckets a version, and consecutive nonces.
 fn stamp(buckets: &mut [Bucket], version: u32, nonce: u64)
     requires small { nonce + length buckets.old < 2 ^ 64 }
     requires empty { AreEmpty buckets.old }
@@ -80,7 +80,7 @@ fn stamp_one(bucket: &mut Bucket, version: u32, nonce: u64)
     bucket.nonce = nonce;
 }
 
-// Puts buckets to their nodes.
+// Stores buckets at their nodes.
 fn store(buckets: &[Bucket], server: &mut [Bucket])
     requires nodes { All (λ bucket. bucket.node ≤ length server.old) buckets.now }
     requires low { All (λ bucket. 1 ≤ bucket.node) buckets.now }
@@ -95,7 +95,7 @@ fn store(buckets: &[Bucket], server: &mut [Bucket])
     }
 }
 
-// Copies all of a bucket but its entries, of which both have none.
+// Copies all of a bucket but its entries: neither has any.
 fn copy_header(from: &Bucket, to: &mut Bucket)
     requires { to.old.entries ≡ from.now.entries }
     ensures { to.new ≡ from.now }

@@ -10,7 +10,7 @@ use std::alloc::Global;
 use std::mem;
 use tao_base::{Block, Blocks, NoMemory, Numbers, Op};
 
-// A copy of the block that is read, or of the value that is written: all the memory that an operation's blocks take.
+// A copy of the block that is read, or of the value that is written. No later step of an operation allocates a block.
 pub fn copy_for(alloc: Global, blocks: &[Block], op: &Op) -> Result<Block, NoMemory>
     requires { NamesBelow (length blocks.now) op.now }
     ensures { IfOk result (λ value. value ≡ value_for blocks.now op.now) }
@@ -22,7 +22,7 @@ pub fn copy_for(alloc: Global, blocks: &[Block], op: &Op) -> Result<Block, NoMem
     }
 }
 
-// Makes the step of the plain array with the copy that was made for it, and gives its reply.
+// Applies an operation to the plain array, with the copy that `copy_for` made, and returns its reply.
 #[tactic(auto, using(tao_base::proofs::Fronts::with_front_all))]
 pub fn exchange(blocks: &mut Blocks, op: &Op, value: Block) -> Block
     requires names { NamesBelow (length blocks.old) op.now }
@@ -36,7 +36,7 @@ pub fn exchange(blocks: &mut Blocks, op: &Op, value: Block) -> Block
     }
 }
 
-// Gives the word whose leaf is fetched, and makes the arrival's own word that of its block's position.
+// Returns the word whose leaf is fetched. The arrival's own word becomes that of its block's position.
 #[tactic(auto, using(tao_base::proofs::Fronts::with_front_all))]
 pub fn take_place(places: &mut Numbers, op: &Op, word: u32) -> u32
     requires { NamesBelow (length places.old) op.now }

@@ -12,9 +12,8 @@ use crate::ranking::rank_copies;
 use crate::stash::Stash;
 use tao_base::{Entries, Params};
 
-/// Gathers the stash and the nodes of the path to the leaf, given from the root on, and places all blocks anew: each node from the leaf
-/// up takes those of lowest id that may lie there, as many as it has room for, and the rest is the stash. Of several copies of a block
-/// the first counts, the stash before the path and the path from the root. It takes no memory.
+/// Gathers the blocks of the stash and of the path (root first), of several copies the first, and places them anew: each node, from the
+/// leaf up, takes as many of lowest id as may lie there and fit. The rest is the stash. It takes no memory.
 pub fn flush(p: &Params, leaf: u32, path: &mut [Entries], stash: &mut Stash, positions: &Positions)
     requires leaf { leaf < 2 ^ p.now.l }
     requires stash { stash.old.shape ≡ p.now }

@@ -58,7 +58,7 @@ module _ (same : Bucket → Bucket → Type 0) (o : Opening) where
   unaltered_before [] es is = is
   unaltered_before (e ∷ later) es is = unaltered_before later es (without_newest e (later ++ es) is)
 
-  -- what is the same as the newest write of a node of the tree
+  -- what is the same as the latest version of a node of the tree
   as_written : (earlier : List Event) (bucket : Bucket)
       → OpensWithLoad o → FollowsLawfully o (reverse earlier) → IsInForm o.shape bucket
       → IfSome (newest_write o (reverse earlier) bucket.node) (same bucket) → IsAsWritten same o earlier bucket

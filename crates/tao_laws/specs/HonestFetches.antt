@@ -24,7 +24,7 @@ abbrev pub AreAsWritten : (Bucket → Bucket → Type 0) → Opening → List Ev
 AreAsWritten same o events = (p arrival i : ℕ) (taken : List Bucket) (bucket : Bucket)
     → IsAt events p (Done arrival taken) → slice_get taken i ≡ Some bucket → IsAsWritten same o (take p events) bucket
 
--- Answers are unaltered exactly where each bucket that was taken in has the entries that were last written at its node.
+-- Answers are unaltered exactly where each fetched bucket has the entries that were last written at its node.
 abbrev pub UnalteredMeans : Type 0
 UnalteredMeans = (o : Opening) (events : List Event) → OpensWithLoad o → FollowsLawfully o (reverse events)
     → Unaltered HasEntriesOf o (reverse events) ↔ AreAsWritten HasEntriesOf o events

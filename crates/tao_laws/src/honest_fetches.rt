@@ -1,7 +1,7 @@
 //! Laws: what honest answers are, said of the whole record.
 ghost use Rattle.tao_laws.specs.HonestFetches.{UnalteredMeans, UnalteredByTest};
 
-/// Answers are unaltered exactly where each bucket that was taken in has the entries of its node's latest version.
+/// Answers are unaltered exactly where each fetched bucket has the entries of its node's latest version.
 pub fn unaltered_means()
     ensures { UnalteredMeans }
 {}

@@ -21,7 +21,7 @@ forms_are_told = record {
   past = λ is. let wrong : 4 ≤ 3 = is.high in omega arith;
 }
 
--- what was taken in last of two buckets is in form
+-- the last of two fetched buckets is in form
 second_in_form : (s : Shape) (x y : Bucket) → All (IsInForm s) (x ∷ y ∷ []) → IsInForm s y
 second_in_form s x y all = All-head (IsInForm s) y [] (All-tail (IsInForm s) x (y ∷ []) all)
 

@@ -26,7 +26,7 @@ pub record CausesThatCanBe : Type 0 where
   pub first_link : MayFailAfter write_backs_out_of_order 0 (Link 0)
   pub last_link : MayFailAfter write_backs_out_of_order 12 (Link 7)
 
--- A stale bucket has another version than its node's newest write.
+-- A stale bucket has another version than the latest of its node.
 pub record StaleThatCannotBe : Type 0 where
   pub found_wanted : MayFailAfter write_backs_out_of_order 9 (Stale 2 3 2 2) → ⊥
   pub wants_older : MayFailAfter write_backs_out_of_order 9 (Stale 2 3 0 2) → ⊥

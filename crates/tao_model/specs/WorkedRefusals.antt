@@ -26,7 +26,7 @@ pub record FormsAreTold : Type 0 where
   pub stash : HasForm 0 [] → ⊥
   pub past : HasForm 4 [] → ⊥
 
--- A fetch of a leaf that has both blocks, taken in with these entries there.
+-- A fetch of a leaf that has both blocks, done with these entries there.
 abbrev pub both_taken : List Entry → History
 both_taken entries = history
     (opening (shape 1 2 4 2 2 One) (1 ∷ 1 ∷ []) (zero ∷ zero ∷ [])

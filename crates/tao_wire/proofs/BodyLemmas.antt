@@ -73,7 +73,7 @@ no_put body short m e = let k = (length_by_kind 6 body m e).put refl in omega ar
 pub no_refused : (body : List ℕ) → (length body ≡ 1 → ⊥) → IsNoContent (8 ∷ body)
 no_refused body other m e = other (let k = (length_by_kind 8 body m e).refused refl in omega arith)
 
--- a message of each kind with a list, whether memory is left for it or not
+-- a message of each kind with a list, whether memory suffices for it or not
 pub some_path : (body rest : List ℕ) (id : ℕ) → body ≡ to_be_bytes w64 id ++ rest → id < 2 ^ 64 → IsSomeContent (2 ∷ body)
 some_path body rest id e small = (Path id rest, (ap (λ all. 2 ∷ all) (sym e), small))
 

@@ -31,7 +31,7 @@ first_split limit stream rest m ms s = (
   record { whole = refl; each = All-tail (Fits limit) m ms s.each },
 )
 
--- What was split off a stream is the front of its messages, and the stream goes on behind it.
+-- What was split off a stream is a prefix of its messages, and the stream goes on behind it.
 pub front_of : (limit : ℕ) (stream left rest : List ℕ) (front ms : List Message) (fault : Option WireFault) → limit < 2 ^ 32
     → Splits limit stream front left → FrameStream limit stream ms rest fault → (more : List Message) × (ms ≡ front ++ more) × FrameStream limit left more rest fault
 front_of limit stream left rest [] ms fault small s f = (ms, refl, subst (λ (all : List ℕ). FrameStream limit all ms rest fault) s.whole f)
