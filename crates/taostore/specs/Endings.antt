@@ -103,7 +103,7 @@ pub record KeepsAll (script : Script) (kept : Option History) (end : End) (text 
   pub played : IsPlayed script script.steps session
   pub told : SessionEnds session (final_array session) end text
 
--- memory ran out before all was played: the record as far as it came is kept, or none where no session was opened; nothing of it is told
+-- memory ran out before all was played: if a record is kept, it is that of the first steps; nothing of it is told
 pub record KeepsPart (script : Script) (kept : Option History) (text : List ℕ) : Type 0 where
   pub part : IfSome kept (λ session. (count : ℕ) × IsPlayed script (take count script.steps) session)
   pub told : text ≡ end_line NoMemory

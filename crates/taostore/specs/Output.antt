@@ -1,4 +1,4 @@
--- What a call has given to its sink, which is seen by the bytes that were put and by its count of faults. It may fail at any write.
+-- What a call has given to its sink, which is seen by the bytes that were put and by its fault counter. It may fail at any write.
 use Rattle.std.specs.Prelude.{◌≡◌, ◌⊎◌, ℕ, List, ◌++◌, length, flat_map, Option, Some, Result, Ok, Err}
 use Rattle.std.specs.Borrow.{Bor}
 use Rattle.std.specs.Io.KnownBytes.{Appends}

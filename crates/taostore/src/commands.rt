@@ -12,7 +12,7 @@ use tao_record::Record;
 /// What a command leaves beside its output: the record of the session that ran.
 #[derive(Debug, Drop)]
 pub struct Kept {
-    /// It is there wherever a session was opened, also where memory ran out or the sink failed.
+    /// Whether or not the output failed, it is the whole record, or, if memory ran out while it was played, that of the first steps or none.
     pub history: Option<Record>,
 }
 
