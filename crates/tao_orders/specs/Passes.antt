@@ -1,10 +1,26 @@
 -- What clauses say of the queue and its passes.
 use Rattle.std.specs.Prelude.{◌≡◌, ℕ, ◌++◌, List, length}
-use Rattle.crossbeam_queue.specs.Passes.{view, IsPassOf, ruled_capacity}
+use Rattle.atomic_table.specs.Seated.{TableId}
+use Rattle.crossbeam_queue.specs.Passes.{view, ruled_capacity}
 use Rattle.tao_orders.specs.declared.orders.Orders.{Orders}
 use Rattle.tao_orders.specs.declared.passes.PutPass.{PutPass}
 use Rattle.tao_orders.specs.declared.passes.TakePass.{TakePass}
 use Rattle.tao_orders.specs.declared.work.Work.{Work}
+
+-- which queue it is
+abbrev pub QueueId : Type 0
+QueueId = TableId
+
+abbrev pub line_of : Orders → QueueId
+line_of orders = orders.line.table.shared.table_id
+
+-- the queue that the pass puts into
+abbrev pub put_line : PutPass → QueueId
+put_line pass = pass.pass.table_id
+
+-- the queue that the pass takes from
+abbrev pub take_line : TakePass → QueueId
+take_line pass = pass.pass.table_id
 
 -- how many pieces the queue may hold
 abbrev pub capacity_of : Orders → ℕ
@@ -12,11 +28,11 @@ capacity_of orders = ruled_capacity orders.line
 
 -- the pass puts into this queue
 abbrev pub IsPutPassOf : Orders → PutPass → Type 0
-IsPutPassOf orders pass = IsPassOf orders.line pass.pass
+IsPutPassOf orders pass = put_line pass ≡ line_of orders
 
 -- the pass takes from this queue
 abbrev pub IsTakePassOf : Orders → TakePass → Type 0
-IsTakePassOf orders pass = IsPassOf orders.line pass.pass
+IsTakePassOf orders pass = take_line pass ≡ line_of orders
 
 -- what the pass put, in order
 abbrev pub put_of : PutPass → List Work

@@ -12,6 +12,7 @@ use crate::plays::{Takers, Takes};
 pub struct PutPass {
     pub(crate) pass: LinePass,
     pub(crate) count: u64,
+    ghost at_rest: { pass.me.1 ≡ [] },
     ghost puts: { (view pass).puts ≡ true },
     ghost counted: { count ≡ length (view pass).put },
     ghost took_none: { (view pass).took ≡ [] },
@@ -21,6 +22,7 @@ pub struct PutPass {
 #[derive(Drop)]
 pub struct TakePass {
     pub(crate) pass: LinePass,
+    ghost at_rest: { pass.me.1 ≡ [] },
 }
 
 impl Orders {

@@ -83,6 +83,8 @@ fn a_full_queue_hands_back(rt: HostRuntime) -> Result<(), Fail> {
     assert!(rt; !put(&rt, alloc, &orders, &mut putting, 2));
     assert_eq!(rt; take(&rt, &orders, &mut taking), Some(1));
     assert_eq!(rt; take(&rt, &orders, &mut taking), None);
+    assert!(rt; put(&rt, alloc, &orders, &mut putting, 2));
+    assert_eq!(rt; take(&rt, &orders, &mut taking), Some(2));
     Ok(())
 }
 
@@ -252,5 +254,45 @@ fn two_takers_take_each_once(rt: HostRuntime) -> Result<(), Fail> {
     orders.join(&mut pass, other);
     let left = orders.finish(&rt, putting, pass);
     assert!(rt; left.as_slice().is_empty());
+    Ok(())
+}
+
+// A taking pass with a share of its queue, as a thread of its own has them.
+#[derive(Drop)]
+struct Taking {
+    orders: Arc<Orders, Global>,
+    pass: TakePass,
+    ghost own: { IsTakePassOf orders.value pass },
+}
+
+fn take_with<R: Wait>(rt: &R, taking: Taking) -> (u32, u32) {
+    let Taking { orders, pass } = taking;
+    let (_, count, sum) = take_all(rt, &orders, pass);
+    (count, sum)
+}
+
+#[test]
+fn threads_share_the_queue_by_an_arc(rt: HostRuntime) -> Result<(), Fail> {
+    let alloc = rt.alloc();
+    let (orders, putting, mut pass) = Orders::new(alloc, 4)?;
+    let second = orders.split(&mut pass);
+    let orders = Arc::new(alloc, orders)?;
+    let theirs = Arc::try_clone(&orders)?;
+    let first = Taking {
+        orders: theirs,
+        pass,
+    };
+    let theirs = Arc::try_clone(&orders)?;
+    let second = Taking {
+        orders: theirs,
+        pass: second,
+    };
+    let first = thread::spawn(&rt, move || take_with(&rt, first))?;
+    let second = thread::spawn(&rt, move || take_with(&rt, second))?;
+    put_all(&rt, alloc, &orders, putting);
+    let (count, sum) = first.join(&rt);
+    let (more, rest) = second.join(&rt);
+    assert_eq!(rt; count.wrapping_add(more), COUNT);
+    assert_eq!(rt; sum.wrapping_add(rest), COUNT * (COUNT + 1) / 2);
     Ok(())
 }
