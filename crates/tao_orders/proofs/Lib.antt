@@ -1,5 +1,6 @@
 pub mod OrderLemmas
 pub mod ViewLemmas
+pub mod ShareLemmas
 pub mod Putting
 pub mod Taking
 pub mod Draining

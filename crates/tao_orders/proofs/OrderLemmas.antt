@@ -22,13 +22,20 @@ times-append n ms ns = sum_by-append (λ m. cond (eqb m n) 1 0) ms ns
 times_first : (n m : ℕ) (ms : List ℕ) → times n (m ∷ ms) ≡ cond (eqb m n) 1 0 + times n ms
 times_first n m ms = times-append n (m ∷ []) ms ∙ ap (λ (k : ℕ). k + times n ms) (nothing_added (cond (eqb m n) 1 0))
 
+-- how often a number stands in two lists of works
+pub numbers-append : (n : ℕ) (first second : List Work) → times n (map number_of (first ++ second)) ≡ times n (map number_of first) + times n (map number_of second)
+numbers-append n first second = ap (times n) (map-append number_of first second) ∙ times-append n (map number_of first) (map number_of second)
+
+-- and in one with a piece more
+pub numbers_more : (n : ℕ) (works : List Work) (work : Work) → times n (map number_of (works ++ work ∷ [])) ≡ times n (map number_of works) + times n (number_of work ∷ [])
+numbers_more n works work = numbers-append n works (work ∷ [])
+
 -- the numbers of a prefix of the works are among those of all
 pub fewer_times : (n : ℕ) (gone rest : List Work) → times n (map number_of gone) ≤ times n (map number_of (gone ++ rest))
 fewer_times n gone rest =
-    let e : times n (map number_of (gone ++ rest)) ≡ times n (map number_of gone) + times n (map number_of rest) =
-    ap (times n) (map-append number_of gone rest) ∙ times-append n (map number_of gone) (map number_of rest) in omega arith
+    let e = numbers-append n gone rest in omega arith
 
-one_all : {X : Type 0} (P : X → Type 0) (x : X) → P x → All P (x ∷ [])
+pub one_all : {X : Type 0} (P : X → Type 0) (x : X) → P x → All P (x ∷ [])
 one_all P x p zero d lt = p
 one_all P x p (suc k) d lt = absurd (omega arith)
 

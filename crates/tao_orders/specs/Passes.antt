@@ -1,7 +1,8 @@
 -- What clauses say of the queue and its passes.
-use Rattle.std.specs.Prelude.{◌≡◌, ℕ, ◌++◌, List, length}
+use Rattle.std.specs.Prelude.{◌≡◌, ℕ, ◌++◌, List, length, map}
 use Rattle.atomic_table.specs.Seated.{TableId}
 use Rattle.crossbeam_queue.specs.Passes.{view, ruled_capacity}
+use Rattle.tao_orders.specs.Works.{number_of}
 use Rattle.tao_orders.specs.declared.orders.Orders.{Orders}
 use Rattle.tao_orders.specs.declared.passes.PutPass.{PutPass}
 use Rattle.tao_orders.specs.declared.passes.TakePass.{TakePass}
@@ -38,9 +39,17 @@ IsTakePassOf orders pass = take_line pass ≡ line_of orders
 abbrev pub put_of : PutPass → List Work
 put_of pass = (view pass.pass).put
 
+-- what the pass took, in order
+abbrev pub works_of : TakePass → List Work
+works_of pass = (view pass.pass).took
+
 -- the versions that the pass took, in order, with 0 for a Stop
 abbrev pub took_of : TakePass → List ℕ
-took_of pass = (view pass.pass).took
+took_of pass = map number_of (works_of pass)
+
+-- its share of all taking
+abbrev pub share_of : TakePass → List ℕ
+share_of pass = (view pass.pass).share
 
 -- at least as many pieces were put as the queue may hold, which is all that a clause can say of a full queue
 abbrev pub WasFull : Orders → List Work → Type 0

@@ -1,6 +1,7 @@
 -- Pieces of work, the numbers that passes keep of them, and their order.
 use Rattle.std.specs.Prelude.{◌≡◌, ℕ, ◌<◌, ◌≤◌, List, ◌++◌, map, ◌==◌, ⊤}
-use Rattle.std.specs.List.{All, AllPairs, count_by}
+use Rattle.std.specs.List.{All, AllPairs, Contains, count_by}
+use Rattle.tao_orders.specs.Shares.{IsWhole}
 use Rattle.tao_orders.specs.declared.work.Work.{Work}
 use Rattle.tao_orders.specs.declared.work.Work.TheVariants.{Order, Stop}
 
@@ -40,8 +41,14 @@ EachOnce ns = (n : ℕ) → 1 ≤ n → times n ns ≤ 1
 abbrev pub IsNewest : List ℕ → ℕ → Type 0
 IsNewest took version = 1 ≤ version → (n : ℕ) → 1 ≤ times n took → (1 ≤ n) × (n < version)
 
--- a suffix of what was put; the numbers that a pass took are among those of the rest
-pub record IsLeft (put : List Work) (took : List ℕ) (left : List Work) : Type 0 where
+-- a pass of this share took some of what all passes took, each piece as it was put; if its share is the whole, it took each of them
+pub record IsPartOf (gone took : List Work) (share : List ℕ) : Type 0 where
+  pub as_put : All (Contains gone) took
+  pub among : (n : ℕ) → times n (map number_of took) ≤ times n (map number_of gone)
+  pub all : IsWhole share → (n : ℕ) → times n (map number_of took) ≡ times n (map number_of gone)
+
+-- a suffix of what was put, and the pass took of what comes before it
+pub record IsLeft (put took : List Work) (share : List ℕ) (left : List Work) : Type 0 where
   pub gone : List Work
   pub suffix : put ≡ gone ++ left
-  pub among : (n : ℕ) → times n took ≤ times n (map number_of gone)
+  pub part : IsPartOf gone took share

@@ -15,12 +15,12 @@ use tao_base::Items;
 pub type Left = Items<Work>;
 
 impl Orders {
-    ghost use Rattle.tao_orders.specs.Passes.{IsPutPassOf, IsTakePassOf, put_of, took_of};
+    ghost use Rattle.tao_orders.specs.Passes.{IsPutPassOf, IsTakePassOf, put_of, works_of, share_of};
 
-    /// Takes out what is left, a suffix of what was put. What the pass took is among the rest.
+    /// Takes out what nobody took, a suffix of what was put. If all taking passes were joined to this one, it took all that comes before.
     pub fn finish<R: Wait>(self, rt: &R, put: PutPass, take: TakePass) -> Left
         requires passes { IsPutPassOf self put × IsTakePassOf self take }
-        ensures { IsLeft (put_of put) (took_of take) result }
+        ensures { IsLeft (put_of put) (works_of take) (share_of take) result }
     {
         let Orders { line, room } = self;
         let PutPass {
@@ -44,8 +44,9 @@ fn drained<R: Wait>(
     requires pass { IsPassOf line.now pass }
     requires puts { (view pass).puts ≡ true }
     requires count { count ≡ length (view pass).put }
+    requires owns { 0 < length (view pass).share }
     requires room { (room.items ≡ []) × (0 < vec_capacity room) }
-    ensures { IsLeft (view pass).put (view pass).took result.items }
+    ensures { IsLeft (view pass).put (view pass).took (view pass).share result.items }
 {
     let slip = match line.pop_as::<Drains, R>(rt, &mut pass) {
         Some(slip) => slip,
@@ -69,6 +70,7 @@ fn drain_rest<R: Wait>(
     requires pass { IsPassOf line.now pass.old }
     requires puts { (view pass.old).puts ≡ true }
     requires count { count ≡ length (view pass.old).put }
+    requires owns { 0 < length (view pass.old).share }
     requires from { from < count }
     requires one { length left.old.items ≡ 1 }
     requires first { left.old.items ≡ take 1 (drop from (view pass.old).put) }

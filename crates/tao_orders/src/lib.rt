@@ -3,6 +3,7 @@
 
 mod finish;
 mod hand;
+mod laws;
 mod orders;
 mod passes;
 mod plays;
@@ -11,6 +12,7 @@ mod tests;
 mod work;
 
 pub use finish::Left;
+pub use laws::joined_is_whole;
 pub use orders::Orders;
 pub use passes::{PutPass, TakePass};
 pub use work::Work;

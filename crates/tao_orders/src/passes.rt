@@ -1,5 +1,5 @@
 //! The passes: makes and joins taking passes.
-ghost use Rattle.std.specs.Prelude.{◌≡◌, ◌++◌, true, [], length};
+ghost use Rattle.std.specs.Prelude.{◌≡◌, ◌<◌, ◌++◌, true, [], length};
 ghost use Rattle.crossbeam_queue.specs.Passes.{view};
 ghost use Rattle.tao_orders.specs.Works.{EachOnce};
 
@@ -15,7 +15,7 @@ pub struct PutPass {
     ghost at_rest: { pass.me.1 ≡ [] },
     ghost puts: { (view pass).puts ≡ true },
     ghost counted: { count ≡ length (view pass).put },
-    ghost took_none: { (view pass).took ≡ [] },
+    ghost took_none: { ((view pass).took ≡ []) × ((view pass).share ≡ []) },
 }
 
 /// A pass that takes.
@@ -23,17 +23,20 @@ pub struct PutPass {
 pub struct TakePass {
     pub(crate) pass: LinePass,
     ghost at_rest: { pass.me.1 ≡ [] },
+    ghost owns: { 0 < length (view pass).share },
 }
 
 impl Orders {
-    ghost use Rattle.tao_orders.specs.Passes.{IsTakePassOf, took_of};
+    ghost use Rattle.tao_orders.specs.Passes.{IsTakePassOf, works_of, took_of, share_of};
+    ghost use Rattle.tao_orders.specs.Shares.{AreParts};
 
     /// One more taking pass, which has taken nothing yet.
     pub fn split(&self, pass: &mut TakePass) -> TakePass
         requires pass { IsTakePassOf self.now pass.old }
         ensures passes { IsTakePassOf self.now pass.new × IsTakePassOf self.now result }
-        ensures old { took_of pass.new ≡ took_of pass.old }
-        ensures new { took_of result ≡ [] }
+        ensures old { works_of pass.new ≡ works_of pass.old }
+        ensures new { works_of result ≡ [] }
+        ensures shares { AreParts (share_of pass.old) (share_of pass.new) (share_of result) }
     {
         TakePass {
             pass: self.line.another::<Takers>(&mut pass.pass),
@@ -44,7 +47,8 @@ impl Orders {
     pub fn join(&self, pass: &mut TakePass, other: TakePass)
         requires passes { IsTakePassOf self.now pass.old × IsTakePassOf self.now other }
         ensures pass { IsTakePassOf self.now pass.new }
-        ensures took { took_of pass.new ≡ took_of pass.old ++ took_of other }
+        ensures took { works_of pass.new ≡ works_of pass.old ++ works_of other }
+        ensures shares { AreParts (share_of pass.new) (share_of pass.old) (share_of other) }
         ensures once { EachOnce (took_of pass.new) }
     {
         let TakePass { pass: other } = other;

@@ -1,6 +1,7 @@
 ghost use Rattle.std.specs.Prelude.{◌≡◌, ◌+◌, ◌<◌, ◌≤◌, ◌∷◌, ◌++◌, [], true, false, IfOk};
 ghost use Rattle.tao_orders.specs.Below.{AreBelow};
-ghost use Rattle.tao_orders.specs.Passes.{IsPutPassOf, IsTakePassOf, put_of};
+ghost use Rattle.tao_orders.specs.Passes.{IsPutPassOf, IsTakePassOf, put_of, share_of};
+ghost use Rattle.tao_orders.specs.Shares.{IsWhole};
 ghost use Rattle.tao_orders.specs.Works.{number_of};
 
 use crate::{Orders, PutPass, TakePass, Work};
@@ -74,6 +75,17 @@ fn take<R: Wait>(rt: &R, orders: &Orders, pass: &mut TakePass) -> Option<u32>
     }
 }
 
+// A pass that is split and joined again, whose share is whole once more.
+fn split_and_join(orders: &Orders, pass: TakePass) -> TakePass
+    requires { IsTakePassOf orders.now pass × IsWhole (share_of pass) }
+    ensures { IsTakePassOf orders.now result × IsWhole (share_of result) }
+{
+    let mut pass = pass;
+    let other = orders.split(&mut pass);
+    orders.join(&mut pass, other);
+    pass
+}
+
 #[test]
 #[tactic(auto, using(crate::proofs::BelowLemmas::none_below))]
 fn a_full_queue_hands_back(rt: HostRuntime) -> Result<(), Fail> {
@@ -105,14 +117,15 @@ fn a_stop_waits_for_room(rt: HostRuntime) -> Result<(), Fail> {
 #[tactic(auto, using(crate::proofs::BelowLemmas::none_below))]
 fn what_is_left_comes_back(rt: HostRuntime) -> Result<(), Fail> {
     let alloc = rt.alloc();
-    let (orders, mut putting, mut taking) = Orders::new(alloc, 2)?;
+    let (orders, mut putting, taking) = Orders::new(alloc, 2)?;
+    let mut taking = split_and_join(&orders, taking);
     assert!(rt; put(&rt, alloc, &orders, &mut putting, 1));
     assert!(rt; put(&rt, alloc, &orders, &mut putting, 2));
     assert_eq!(rt; take(&rt, &orders, &mut taking), Some(1));
     let left = orders.finish(&rt, putting, taking);
-    let versions = left.as_slice();
-    assert_eq!(rt; versions.len(), 1);
-    assert_eq!(rt; version_of(&versions[0]), 2);
+    let works = left.as_slice();
+    assert_eq!(rt; works.len(), 1);
+    assert_eq!(rt; version_of(&works[0]), 2);
     Ok(())
 }
 

@@ -1,10 +1,10 @@
 use Rattle.std.proofs.Common.{rules, ◌≡◌, ◌+◌, ◌∷◌, [], length, length-append, take, drop, ap, sym, ◌∙◌, arith}
 use Rattle.crossbeam_queue.specs.Passes.{view}
-use Rattle.tao_orders.proofs.Draining.{drains, among, next_from}
+use Rattle.tao_orders.proofs.Draining.{drains, rest_held, next_from}
 use Rattle.tao_orders.proofs.finish.drain_rest.Goals as goal
 
 pub pop_as-requires-clause-rule : goal.pop_as-requires-clause-rule
-pop_as-requires-clause-rule g c = (drains _ _ c.loop.invariant.puts, among _ _ c.loop.invariant.puts)
+pop_as-requires-clause-rule g c = (drains _ _ c.loop.invariant.puts c.loop.invariant.owns, rest_held _ _ c.loop.invariant.puts)
 
 pub loop-preserved : goal.loop-preserved
 loop-preserved g c =
@@ -20,6 +20,7 @@ loop-preserved g c =
       is_finite = search rules;
       queue = search rules;
       puts = search rules;
+      owns = search rules;
       put = search rules;
       next = search rules;
       within = omega arith;

@@ -1,4 +1,4 @@
-use Rattle.std.proofs.Common.{◌≡◌, ◌+◌, ◌≤◌, true, take, drop, length}
+use Rattle.std.proofs.Common.{◌≡◌, ◌+◌, ◌<◌, ◌≤◌, true, take, drop, length}
 use Rattle.crossbeam_queue.specs.Passes.{view, IsPassOf}
 use Rattle.tao_orders.proofs.finish.drain_rest.Given as goal
 
@@ -8,6 +8,7 @@ invariant-loop g l = record {
   is_finite : (goal.iterator-loop g).is_finite l.iterator';
   queue : IsPassOf l.line l.pass;
   puts : (view l.pass).puts ≡ true;
+  owns : 0 < length (view l.pass).share;
   put : (view l.pass).put ≡ (view l.fn.pass).put;
   next : l.next ≡ l.from + length l.left.items;
   within : l.next ≤ l.count;

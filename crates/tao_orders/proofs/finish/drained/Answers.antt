@@ -1,13 +1,13 @@
 use Rattle.std.proofs.Common.{◌∷◌, [], ◌++◌, ap, ◌∙◌, arith}
 use Rattle.crossbeam_queue.specs.Passes.{view}
-use Rattle.tao_orders.proofs.Draining.{drains, among, left_from, left_none, first_from}
+use Rattle.tao_orders.proofs.Draining.{drains, rest_held, left_from, left_none, first_from}
 use Rattle.tao_orders.proofs.finish.drained.Goals as goal
 
 pub pop_as-requires-clause-rule : goal.pop_as-requires-clause-rule
-pop_as-requires-clause-rule g c = (drains _ _ c.requires.puts, among _ _ c.requires.puts)
+pop_as-requires-clause-rule g c = (drains _ _ c.requires.puts c.requires.owns, rest_held _ _ c.requires.puts)
 
 pub returns-in-None : goal.returns-in-None
-returns-in-None g c = left_none (view c.args.pass) c.args.room.items c.in-None.ensures.rule.1.2 c.requires.room.0
+returns-in-None g c = left_none (view c.args.pass) c.args.room.items c.in-None.ensures.rule.1 c.requires.room.0
 
 pub drain_rest-requires-clause-from : goal.drain_rest-requires-clause-from
 drain_rest-requires-clause-from g c =
