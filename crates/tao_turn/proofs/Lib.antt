@@ -1,5 +1,6 @@
 pub mod ListLemmas
 pub mod ShareLemmas
+pub mod OrderLemmas
 pub mod ViewLemmas
 pub mod Keeping
 pub mod Drawing

@@ -1,7 +1,7 @@
 -- What one pass may know of the history: the list of the value's entries, which only grows.
 use Rattle.std.specs.Prelude.{◌≡◌, ℕ, ◌-◌, ◌<◌, ◌≤◌, max, List, [], ◌∷◌, ◌++◌, length, Option, Some, true, false, ◌⊎◌}
 use Rattle.std.specs.List.{range_with_len}
-use Rattle.tao_turn.specs.Lists.{Begins, longer, has, removed, merged}
+use Rattle.tao_turn.specs.Lists.{Begins, longer, has, removed, merged, is_empty, RisesFrom}
 use Rattle.tao_turn.specs.declared.view.Knowledge.{Knowledge}
 
 -- no entry from position n on was made under one of these shares
@@ -48,3 +48,20 @@ module _ {E : Type 0} where
     -- what one pass has seen is a prefix of what the other has seen, and the rest wasn't made under its shares; or the other way round
     abbrev pub AreOfOne : Knowledge E → Knowledge E → Type 0
     AreOfOne k m = (Begins k.seen m.seen × NoneMade maker m.seen (length k.seen) k.shares) ⊎ (Begins m.seen k.seen × NoneMade maker k.seen (length m.seen) m.shares)
+
+  -- the added positions rise and lie in the list that was seen; the shares rise, at least one, and are below `seats`
+  pub record IsInOrder (seats : ℕ) (k : Knowledge E) : Type 0 where
+    pub added : RisesFrom 0 k.added
+    pub within : (i : ℕ) → has i k.added ≡ true → i < length k.seen
+    pub shares : RisesFrom 0 k.shares
+    pub numbers : (n : ℕ) → has n k.shares ≡ true → n < seats
+    pub some_share : is_empty k.shares ≡ false
+
+-- each call leaves in order what a pass knows
+pub record StaysInOrder (E : Type 0) : Type 0 where
+  pub made : (seats : ℕ) (list : List E) → 0 < seats → IsInOrder seats (newcomer list (range_with_len 0 seats))
+  pub left : (seats : ℕ) (k : Knowledge E) (found list : List E) → IsInOrder seats k → Begins k.seen found → Begins found list → IsInOrder seats (after_turn k found list)
+  pub glanced : (seats : ℕ) (k : Knowledge E) (mark : ℕ) → IsInOrder seats k → IsInOrder seats (record k { told = mark })
+  pub cut : (seats : ℕ) (k : Knowledge E) (n : ℕ) → IsInOrder seats k → is_empty (removed n k.shares) ≡ false → IsInOrder seats (without n k)
+  pub split : (seats : ℕ) (k : Knowledge E) (n : ℕ) → IsInOrder seats k → has n k.shares ≡ true → IsInOrder seats (only n k)
+  pub merged : (seats : ℕ) (k m : Knowledge E) → IsInOrder seats k → IsInOrder seats m → IsInOrder seats (joined k m)

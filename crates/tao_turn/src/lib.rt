@@ -15,7 +15,7 @@ mod turns;
 mod view;
 
 pub use journal::Journal;
-pub use laws::merging_rises;
+pub use laws::{merging_rises, stays_in_order};
 pub use lock::{LeftOut, TurnLock};
 pub use pass::{Held, TurnPass};
 pub use view::{Knowledge, Stage, View};

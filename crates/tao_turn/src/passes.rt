@@ -1,13 +1,16 @@
 //! What passes do outside of turns: split off and join shares, and read the mark.
-ghost use Rattle.std.specs.Prelude.{◌≡◌, ◌≤◌, true, false};
+ghost use Rattle.std.specs.Prelude.{◌≡◌, ◌≤◌, [], true, false, None};
 ghost use Rattle.tao_turn.specs.Histories.{without, only, joined, AreOfOne};
 ghost use Rattle.tao_turn.specs.Lists.{has, removed, is_empty};
+ghost use Rattle.tao_turn.specs.Views.{joined_view};
+ghost use Rattle.tao_turn.specs.declared.view.Stage.TheVariants.{Idle};
 
 use crate::journal::Journal;
 use crate::lock::TurnLock;
 use crate::pass::TurnPass;
 use crate::plays::{Cut, Glance, Merge, Recall, Share};
-use atomic_table::Badge;
+use crate::view::View;
+use atomic_table::{Badge, Seat};
 use std::marker::Brand;
 use std::mem;
 
@@ -70,10 +73,24 @@ impl<T: Journal> TurnLock<T> {
         let badge = mem::replace(&mut pass.badge, Badge::blank());
         let mut seat = badge.into_seat::<Option<T>>();
         let TurnPass { badge } = other;
-        self.table
-            .shared
-            .join_seat::<Merge>(&mut seat, badge.into_seat::<Option<T>>());
-        self.table.shared.load::<Recall<T>>(&mut seat, 0);
+        self.merge(&mut seat, badge.into_seat::<Option<T>>());
         pass.badge = seat.into_badge();
+    }
+
+    // Joins the other seat to this one, and asks the rule about the two.
+    fn merge(
+        &self,
+        seat: &mut Seat<Option<T>, View<T::Entry>>,
+        other: Seat<Option<T>, View<T::Entry>>,
+    )
+        requires tables { (seat.old.table_id ≡ self.now.table.shared.table_id) × (other.table_id ≡ self.now.table.shared.table_id) }
+        requires idle { (seat.old.me.0.stage ≡ Idle) × (other.me.0.stage ≡ Idle) }
+        requires slots { (seat.old.me.1 ≡ []) × (other.me.1 ≡ []) }
+        ensures seat { (seat.new.table_id ≡ seat.old.table_id) × (seat.new.id ≡ seat.old.id) }
+        ensures joined { seat.new.me ≡ (record (joined_view seat.old.me.0 other.me.0) { joined = None }, []) }
+        ensures one { AreOfOne T.maker seat.old.me.0.known other.me.0.known }
+    {
+        self.table.shared.join_seat::<Merge>(seat, other);
+        self.table.shared.load::<Recall<T>>(seat, 0);
     }
 }

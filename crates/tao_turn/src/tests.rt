@@ -3,7 +3,7 @@ ghost use Rattle.tao_turn.specs.Lists.{has};
 ghost use Rattle.tao_turn.specs.Notes.{greatest, made_by, greatest_grows, maker_stays};
 ghost use Rattle.tao_turn.specs.Passes.{IsPassOf, known};
 
-use crate::{Journal, TurnLock, TurnPass};
+use crate::{Journal, LeftOut, TurnLock, TurnPass};
 use std::alloc::{AllocError, Global};
 use std::sync::Wait;
 use std::test::Fail;
@@ -70,20 +70,20 @@ fn two_passes(alloc: Global) -> Result<(TurnLock<Notes>, Pass, Pass), Fail>
     }
 }
 
-// A turn that writes a note.
+// A turn that writes a note. A blank lies behind the `&mut` meanwhile.
 #[tactic(auto, using(crate::proofs::NoteLemmas::own_note, crate::proofs::NoteLemmas::no_note))]
-fn note<R: Wait>(rt: &R, lock: &TurnLock<Notes>, pass: Pass, by: u32, mark: u64) -> Pass
-    requires pass { IsPassOf lock.now pass }
-    requires share { has by (known pass).shares ≡ true }
-    ensures pass { IsPassOf lock.now result }
-    ensures shares { (known result).shares ≡ (known pass).shares }
+fn note<R: Wait>(rt: &R, lock: &TurnLock<Notes>, pass: &mut Pass, by: u32, mark: u64)
+    requires pass { IsPassOf lock.now pass.old }
+    requires share { has by (known pass.old).shares ≡ true }
+    ensures pass { IsPassOf lock.now pass.new }
+    ensures shares { (known pass.new).shares ≡ (known pass.old).shares }
 {
-    let mut held = lock.enter(rt, pass);
+    let mut held = lock.enter(rt, mem::replace(pass, TurnPass::blank()));
     match held.value().write(by, mark) {
         Ok(()) => {}
         Err(_) => {}
     }
-    lock.leave(held)
+    *pass = lock.leave(held);
 }
 
 // Many turns, each with a note.
@@ -94,9 +94,20 @@ fn many_notes<R: Wait>(rt: &R, lock: &TurnLock<Notes>, pass: Pass, by: u32, coun
 {
     let mut pass = pass;
     for mark in 0..count {
-        pass = note(rt, lock, pass, by, mark);
+        note(rt, lock, &mut pass, by, mark);
     }
     pass
+}
+
+// What is left out if a turn is forgotten after so many others.
+fn forgotten_after<R: Wait>(rt: &R, alloc: Global, count: u64) -> Result<Option<LeftOut>, Fail> {
+    let (lock, first, second) = two_passes(alloc)?;
+    let second = many_notes(rt, &lock, second, 1, count);
+    mem::forget(lock.enter(rt, first));
+    match lock.close(second) {
+        Ok(_) => Ok(None),
+        Err(left_out) => Ok(Some(left_out)),
+    }
 }
 
 #[test]
@@ -130,15 +141,14 @@ fn two_threads_take_turns(rt: HostRuntime) -> Result<(), Fail> {
 }
 
 #[test]
-#[tactic(auto, using(crate::proofs::NoteLemmas::no_note))]
 fn a_forgotten_turn_is_told(rt: HostRuntime) -> Result<(), Fail> {
-    let (lock, first, second) = two_passes(rt.alloc())?;
-    let held = lock.enter(&rt, second);
-    let second = lock.leave(held);
-    mem::forget(lock.enter(&rt, first));
-    match lock.close(second) {
-        Ok(_) => assert!(rt; false),
-        Err(left) => assert_eq!(rt; (left.ticket, left.serving), (2, 1)),
+    for (count, ticket, serving) in [(0, 1, 0), (1, 2, 1), (3, 4, 3)] {
+        match forgotten_after(&rt, rt.alloc(), count)? {
+            Some(left_out) => {
+                assert_eq!(rt; (left_out.ticket, left_out.serving), (ticket, serving));
+            }
+            None => assert!(rt; false),
+        }
     }
     Ok(())
 }
@@ -146,11 +156,11 @@ fn a_forgotten_turn_is_told(rt: HostRuntime) -> Result<(), Fail> {
 #[test]
 #[tactic(auto, using(crate::proofs::NoteLemmas::no_note))]
 fn every_pass_glances_the_mark(rt: HostRuntime) -> Result<(), Fail> {
-    let (lock, first, mut second) = two_passes(rt.alloc())?;
+    let (lock, mut first, mut second) = two_passes(rt.alloc())?;
     assert_eq!(rt; lock.glance(&mut second), 0);
-    let first = note(&rt, &lock, first, 0, 1);
+    note(&rt, &lock, &mut first, 0, 1);
     assert_eq!(rt; lock.glance(&mut second), 1);
-    let mut first = note(&rt, &lock, first, 0, u64::MAX);
+    note(&rt, &lock, &mut first, 0, u64::MAX);
     assert_eq!(rt; lock.glance(&mut first), u64::MAX);
     assert_eq!(rt; lock.glance(&mut second), u64::MAX);
     let held = lock.enter(&rt, first);
