@@ -56,6 +56,7 @@ module _ {T E : Type 0} (entries : T → List E) (mark_of : List E → ℕ) (mak
                 history = seen_on maker (list_of entries r.place) (is_live me.0.stage) true me.0.known live k.history;
                 shares = owns_on seats r.owner id (is_live me.0.stage) true me.0.known.shares live k.shares;
                 marks = marked_on mark_of r.mark (is_settled me.0.stage) true me.0.published me.0.known settled k.marks;
+                ended = k.ended;
                 compares = k.compares;
               })
               (λ j u apart e. let k = r.each j u e in record {
@@ -66,6 +67,7 @@ module _ {T E : Type 0} (entries : T → List E) (mark_of : List E → ℕ) (mak
                 history = k.history;
                 shares = k.shares;
                 marks = k.marks;
+                ended = k.ended;
                 compares = k.compares;
               });
           drawn = λ t lo hi. dite (ℕ_discrete t old)

@@ -1,5 +1,5 @@
 -- How the rule begins, and what it tells at the end.
-use Rattle.std.proofs.Common.{◌≡◌, ℕ, zero, suc, ◌<◌, ◌≤◌, get_or, List, [], ◌∷◌, refl, sym, ap, ◌∙◌, subst, true, true≢false, arith}
+use Rattle.std.proofs.Common.{◌≡◌, ◌≢◌, ℕ, zero, suc, ◌-◌, ◌<◌, ◌≤◌, get_or, List, [], ◌∷◌, length, refl, sym, ap, ◌∙◌, subst, true, false, true≢false, arith}
 use mathlib.Core.Option.{some, some-injective, some-ne-none}
 use mathlib.Core.Option as maybe
 use mathlib.Core.Logic.{dite}
@@ -7,15 +7,17 @@ use native.Mathlib.Decide.{dec_le}
 use lib.ListN.{get_elem?}
 use Rattle.std.specs.Prelude.{Option, Some}
 use Rattle.std.specs.List.{range_with_len}
-use Rattle.std.proofs.lemmas.Option.{none-some}
+use Rattle.std.proofs.lemmas.Option.{none-some, same_Some}
 use Rattle.atomic_table.specs.Table.{State, Final, Seen, opening}
-use Rattle.tao_turn.specs.Histories.{MayFind, HasAll}
+use Rattle.tao_turn.specs.Histories.{MayFind, AreLeftOut, HasAll}
+use Rattle.tao_turn.specs.Lists.{has, missing}
 use Rattle.tao_turn.specs.Rule.{home, list_of, Fits, Turn}
 use Rattle.tao_turn.specs.Views.{ticket_in, is_live, first_view}
 use Rattle.tao_turn.specs.declared.view.Stage.TheVariants.{Idle}
 use Rattle.tao_turn.specs.declared.view.View.{View}
 use Rattle.tao_turn.proofs.ListLemmas.{begins_itself}
-use Rattle.tao_turn.proofs.ShareLemmas.{has_range, range_has, has_some, some_number}
+use Rattle.tao_turn.proofs.ShareLemmas.{bool_false, has_range, range_has, has_some, some_number}
+use Rattle.tao_turn.proofs.Counting.{no_more, has_missing}
 use Rattle.tao_turn.proofs.ViewLemmas.{ticket_lives}
 use Rattle.tao_turn.proofs.Keeping.{at_home}
 
@@ -53,6 +55,7 @@ module _ {T E : Type 0} (entries : T → List E) (mark_of : List E → ℕ) (mak
           some_share = λ _. has_some 0 (range_with_len 0 seats) (range_has 0 0 seats (omega arith) (omega arith));
         };
         marks = record { glanced = omega arith; within = omega arith; enough = λ _. omega arith };
+        ended = omega arith;
         compares = λ a b e. absurd (none-some (a, b) e);
       })
       at_first (suc j) v e = absurd (some-ne-none v (sym e))
@@ -79,6 +82,38 @@ module _ {T E : Type 0} (entries : T → List E) (mark_of : List E → ℕ) (mak
         let glanced : v.known.told ≤ r.mark = own.marks.glanced in
         let within : r.mark ≤ mark_of (list_of entries r.place) = r.mark_within in
         (found.0, found.2, subst (λ (l : List E). MayFind maker mark_of v.known l) listed (record { seen = own.history.seen live; others = own.history.others live; mark = omega arith }), listed)
+
+    -- each ticket that isn't served is of a seat with a share that this one lacks
+    abbrev Waits : ℕ → ℕ → Type 0
+    Waits t n = (u : View E) × (get_elem? s.views (r.owner n) ≡ some u) × (ticket_in u.stage ≡ Some t)
+
+    one_ticket : (t u n : ℕ) → Waits t n → Waits u n → t ≡ u
+    one_ticket t u n a b = same_Some t u (sym a.2 ∙ (ap (λ (x : View E). ticket_in x.stage) (some-injective a.0 b.0 (sym a.1 ∙ b.1)) ∙ b.2))
+
+    lacked : (t : ℕ) → r.serving ≤ t → t < r.next → (n : ℕ) × (has n (missing v.known.shares (range_with_len 0 seats)) ≡ true) × Waits t n
+    lacked t lo hi =
+        let d = r.drawn t lo hi in
+        let k = r.each (r.drawer t) d.0 d.1 in
+        let alive = ticket_lives d.0.stage t d.2 in
+        let n = some_number d.0.known.shares (k.shares.some_share alive) in
+        let o = k.shares.owns alive n.0 n.1 in
+        let below : n.0 < seats = o.0 in
+        let apart : has n.0 v.known.shares ≡ false = bool_false (has n.0 v.known.shares) (λ mine.
+        let here : r.drawer t ≡ id = sym o.1 ∙ ((r.each id v at).shares.owns live n.0 mine).1 in
+        let same : v ≡ d.0 = some-injective v d.0 (sym at ∙ (ap (get_elem? s.views) (sym here) ∙ d.1)) in
+        none-some t (sym (ap ticket_in idle) ∙ (ap (λ (u : View E). ticket_in u.stage) same ∙ d.2))) in
+        (n.0, has_missing n.0 v.known.shares (range_with_len 0 seats) (range_has n.0 0 seats (omega arith) (omega arith)) apart, (d.0, ap (get_elem? s.views) o.1 ∙ d.1, d.2))
+
+    words_apart : (get_or s.words 0 0 ≡ get_or s.words 1 0 → ⊥) → AreLeftOut seats v.known (get_or s.words 0 0) (get_or s.words 1 0)
+    words_apart differ =
+        let a = next_is in
+        let b = serving_is in
+        let c : r.serving ≤ r.next = r.in_order in
+        let e : v.known.ended ≤ r.serving = (r.each id v at).ended in
+        let off : r.next ≢ r.serving = λ same. differ (a ∙ (same ∙ sym b)) in
+        let most : r.next - r.serving ≤ length (missing v.known.shares (range_with_len 0 seats)) = no_more Waits one_ticket r.serving (r.next - r.serving) (missing v.known.shares (range_with_len 0 seats))
+        (λ t lo hi. lacked t lo (omega arith)) in
+        record { ended = omega arith; some = omega arith; most = omega arith }
 
     -- with all shares there is no other seat
     module _ (all : HasAll seats v.known.shares) where
@@ -113,6 +148,10 @@ module _ {T E : Type 0} (entries : T → List E) (mark_of : List E → ℕ) (mak
 
     pub closes_alone : HasAll seats v.known.shares → a ≡ b
     closes_alone all = sym a_is ∙ (no_tickets f.0 f.1.0 id v f.1.1 idle all ∙ b_is)
+
+    pub tells_left_out : (a ≡ b → ⊥) → AreLeftOut seats v.known a b
+    tells_left_out differ = subst (λ (z : ℕ × ℕ). AreLeftOut seats v.known z.0 z.1) (λ i. (a_is i, b_is i))
+        (words_apart f.0 f.1.0 id v f.1.1 idle (λ same. differ (sym a_is ∙ (same ∙ b_is))))
 
     pub closes : a ≡ b → (slot : Option T) → get_elem? xs 0 ≡ some slot
         → (x : T) × (slot ≡ Some x) × MayFind maker mark_of v.known (entries x) × (HasAll seats v.known.shares → entries x ≡ v.known.seen)

@@ -52,6 +52,8 @@ module _ {T E : Type 0} (entries : T → List E) (mark_of : List E → ℕ) (mak
       let bw : Begins w.known.seen l = theirs.history.seen lw in
       let nv : NoneMade maker l (length v.known.seen) v.known.shares = own.history.others lv in
       let nw : NoneMade maker l (length w.known.seen) w.known.shares = theirs.history.others lw in
+      let dv : v.known.ended ≤ r.serving = own.ended in
+      let dw : w.known.ended ≤ r.serving = theirs.ended in
       let ns : List ℕ = merged v.known.shares w.known.shares in
       let gv : v.known.told ≤ r.mark = own.marks.glanced in
       let gw : w.known.told ≤ r.mark = theirs.marks.glanced in
@@ -85,6 +87,7 @@ module _ {T E : Type 0} (entries : T → List E) (mark_of : List E → ℕ) (mak
           within = omega arith;
           enough = λ _. longer_is (λ (z : List E). mark_of z ≤ max v.published w.published) v.known.seen w.known.seen (λ _. omega arith) (λ _. omega arith);
         };
+        ended = omega arith;
         compares = λ a c e. subst (λ (z : Knowledge E × Knowledge E). AreOfOne maker z.0 z.1) (same_Some (v.known, w.known) (a, c) e) (of_one stays l v.known w.known bv bw nv nw);
       } in
       let gone : K other o = record {
@@ -92,6 +95,7 @@ module _ {T E : Type 0} (entries : T → List E) (mark_of : List E → ℕ) (mak
         history = record { seen = λ e. absurd (true≢false (sym e)); others = λ e. absurd (true≢false (sym e)) };
         shares = record { owns = λ e. absurd (true≢false (sym e)); some_share = λ e. absurd (true≢false (sym e)) };
         marks = record { glanced = omega arith; within = omega arith; enough = λ e. absurd (true≢false (sym e)) };
+        ended = omega arith;
         compares = λ a c e. absurd (none-some (a, c) e);
       } in
       record {
@@ -117,6 +121,7 @@ module _ {T E : Type 0} (entries : T → List E) (mark_of : List E → ℕ) (mak
                 some_share = k.shares.some_share;
               };
               marks = k.marks;
+              ended = k.ended;
               compares = k.compares;
             }) j u e off);
         drawn = λ t lo hi. let d = r.drawn t lo hi in still (λ u. ticket_in u.stage ≡ Some t) (r.drawer t) d.0 d.1 d.2 (λ _ p. absurd (none-some t (sym tv ∙ p))) (λ _ p. absurd (none-some t (sym tw ∙ p)));
@@ -170,7 +175,7 @@ module _ {T E : Type 0} (entries : T → List E) (mark_of : List E → ℕ) (mak
           in_place = stays_in entries mark_of maker seats s.homes s.views id v w at (λ h. h) r.place r.in_place;
           mark_within = r.mark_within;
           each = every s.views id v w at (Fits entries mark_of maker seats r.serving r.next r.mark r.place r.drawer r.owner)
-              (record { queued = own.queued; history = own.history; shares = own.shares; marks = own.marks; compares = λ a b e. absurd (none-some (a, b) e) })
+              (record { queued = own.queued; ended = own.ended; history = own.history; shares = own.shares; marks = own.marks; compares = λ a b e. absurd (none-some (a, b) e) })
               (λ j u apart e. r.each j u e);
           drawn = drawn_on s.views id v w at r.serving r.next r.drawer (λ _ _ p. p) r.drawn;
           known = known_on s.views id v w at (list_of entries r.place) (λ e. e) refl r.known;

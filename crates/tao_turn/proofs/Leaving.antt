@@ -10,11 +10,11 @@ use Rattle.tao_turn.specs.Lists.{Begins, has}
 use Rattle.tao_turn.specs.Histories.{NoneMade, OwnMade}
 use Rattle.tao_turn.specs.Rule.{Place, home, list_of, IsInPlace, IsOut, Fits, Turn}
 use Rattle.tao_turn.specs.Steps.{Left}
-use Rattle.tao_turn.specs.Views.{is_holder, list_found, is_live, left_view}
+use Rattle.tao_turn.specs.Views.{is_holder, ticket_held, list_found, is_live, left_view}
 use Rattle.tao_turn.specs.declared.view.View.{View}
 use Rattle.tao_turn.proofs.ListLemmas.{begins_trans, begins_itself}
 use Rattle.tao_turn.proofs.ShareLemmas.{bool_false, none_since}
-use Rattle.tao_turn.proofs.ViewLemmas.{here, every, holder_lives}
+use Rattle.tao_turn.proofs.ViewLemmas.{here, every, holder_lives, holder_has}
 use Rattle.tao_turn.proofs.Keeping.{is_out, mark_of_beginning, drawn_on, owned_on}
 
 module _ {T E : Type 0} (entries : T → List E) (mark_of : List E → ℕ) (maker : List E → ℕ → Option ℕ) (seats : ℕ)
@@ -29,6 +29,7 @@ module _ {T E : Type 0} (entries : T → List E) (mark_of : List E → ℕ) (mak
       let live : is_live v.stage ≡ true = holder_lives v.stage holds in
       let own = r.each id v at in
       let has_turn = (own.queued.held holds).0 in
+      let served : ticket_held v.stage ≡ r.serving = same_Some (ticket_held v.stage) r.serving (sym (holder_has v.stage holds) ∙ has_turn) in
       let drew = own.queued.ticket r.serving has_turn in
       let place_is = is_out entries r.place id found (own.queued.held holds).1 in
       let listed : list_of entries r.place ≡ found = ap (list_of entries) place_is in
@@ -60,6 +61,7 @@ module _ {T E : Type 0} (entries : T → List E) (mark_of : List E → ℕ) (mak
                 history = record { seen = λ _. begins_itself (entries x); others = λ _ i k lo hi made. absurd (omega arith) };
                 shares = record { owns = λ _. own.shares.owns live; some_share = λ _. own.shares.some_share live };
                 marks = record { glanced = own.marks.glanced; within = own.marks.within; enough = λ h. absurd (true≢false (sym h)) };
+                ended = omega arith;
                 compares = own.compares;
               })
               (λ j u apart e. let k = r.each j u e in record {
@@ -76,6 +78,7 @@ module _ {T E : Type 0} (entries : T → List E) (mark_of : List E → ℕ) (mak
                 };
                 shares = k.shares;
                 marks = k.marks;
+                ended = let before = k.ended in omega arith;
                 compares = k.compares;
               });
           drawn = λ t lo up. drawn_on s.views id v w at (r.serving + 1) r.next r.drawer

@@ -1,6 +1,7 @@
 pub mod ListLemmas
 pub mod ShareLemmas
 pub mod OrderLemmas
+pub mod Counting
 pub mod ViewLemmas
 pub mod Keeping
 pub mod Drawing

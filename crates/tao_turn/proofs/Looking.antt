@@ -46,6 +46,7 @@ module _ {T E : Type 0} (entries : T → List E) (mark_of : List E → ℕ) (mak
       let w : View E = record me.0 { stage = Holding t (entries x) } in
       let glanced : me.0.known.told ≤ r.mark = own.marks.glanced in
       let within : r.mark ≤ mark_of (entries x) = subst (λ (l : List E). r.mark ≤ mark_of l) listed r.mark_within in
+      let before : me.0.known.ended ≤ r.serving = own.ended in
       let history : HasSeen maker (entries x) (is_live me.0.stage) me.0.known = subst (λ (l : List E). HasSeen maker l (is_live me.0.stage) me.0.known) listed own.history in (
         w,
         takes 0 (Some x),
@@ -71,6 +72,7 @@ module _ {T E : Type 0} (entries : T → List E) (mark_of : List E → ℕ) (mak
                 history = seen_on maker (entries x) (is_live me.0.stage) true me.0.known live history;
                 shares = owns_on seats r.owner id (is_live me.0.stage) true me.0.known.shares live own.shares;
                 marks = marked_on mark_of r.mark (is_settled me.0.stage) true me.0.published me.0.known settled own.marks;
+                ended = own.ended;
                 compares = own.compares;
               })
               (λ j u apart e. let k = r.each j u e in record {
@@ -78,6 +80,7 @@ module _ {T E : Type 0} (entries : T → List E) (mark_of : List E → ℕ) (mak
                 history = subst (λ (l : List E). HasSeen maker l (is_live u.stage) u.known) listed k.history;
                 shares = k.shares;
                 marks = k.marks;
+                ended = k.ended;
                 compares = k.compares;
               });
           drawn = drawn_on s.views id me.0 w at r.serving r.next r.drawer (λ k _ p. sym mine ∙ p) r.drawn;
@@ -85,7 +88,7 @@ module _ {T E : Type 0} (entries : T → List E) (mark_of : List E → ℕ) (mak
           owned = owned_on s.views id me.0 w at seats r.owner (λ _. refl) refl r.owned;
         },
         λ t' e'. (
-          (λ hit'. (x, ap (λ (k : ℕ). (record me.0 { stage = Holding k (entries x) }, (0, Some x) ∷ me.1)) (sym hit ∙ hit'), record { seen = history.seen live; others = history.others live; mark = omega arith })),
+          (λ hit'. (x, ap (λ (k : ℕ). (record me.0 { stage = Holding k (entries x) }, (0, Some x) ∷ me.1)) (sym hit ∙ hit'), record { seen = history.seen live; others = history.others live; mark = omega arith }, omega arith)),
           λ miss. absurd (miss (hit ∙ ticket_is me.0.stage t t' waits e')),
         ),
       ))

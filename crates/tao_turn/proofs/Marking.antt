@@ -48,6 +48,7 @@ module _ {T E : Type 0} (entries : T → List E) (mark_of : List E → ℕ) (mak
                 history = seen_on maker (list_of entries r.place) (is_live v.stage) true v.known live own.history;
                 shares = owns_on seats r.owner id (is_live v.stage) true v.known.shares live own.shares;
                 marks = record { glanced = omega arith; within = omega arith; enough = λ _. omega arith };
+                ended = own.ended;
                 compares = own.compares;
               })
               (λ j u apart e. let k = r.each j u e in record {
@@ -55,6 +56,7 @@ module _ {T E : Type 0} (entries : T → List E) (mark_of : List E → ℕ) (mak
                 history = k.history;
                 shares = k.shares;
                 marks = marked_up mark_of r.mark more (is_settled u.stage) u.published u.known up k.marks;
+                ended = k.ended;
                 compares = k.compares;
               });
           drawn = drawn_on s.views id v w at r.serving r.next r.drawer (λ t _ p. absurd (none-some t (sym no_ticket ∙ p))) r.drawn;
@@ -96,6 +98,7 @@ module _ {T E : Type 0} (entries : T → List E) (mark_of : List E → ℕ) (mak
                 history = record { seen = own.history.seen; others = own.history.others };
                 shares = own.shares;
                 marks = record { glanced = omega arith; within = within; enough = own.marks.enough };
+                ended = own.ended;
                 compares = own.compares;
               })
               (λ j u apart e. r.each j u e);

@@ -51,8 +51,8 @@ module _ {E : Type 0} where
     some_share = has_some 0 (range_with_len 0 seats) (range_has 0 0 seats (omega arith) (omega arith));
   }
 
-  left : (seats : ℕ) (k : Knowledge E) (found list : List E) → IsInOrder seats k → Begins k.seen found → Begins found list → IsInOrder seats (after_turn k found list)
-  left seats k found list o seen longer =
+  left : (seats : ℕ) (k : Knowledge E) (ticket : ℕ) (found list : List E) → IsInOrder seats k → Begins k.seen found → Begins found list → IsInOrder seats (after_turn k ticket found list)
+  left seats k ticket found list o seen longer =
       let a : length k.seen ≤ length found = begins_length k.seen found seen in
       let b : length found ≤ length list = begins_length found list longer in record {
         added = append_rises 0 (length found) (length list - length found) k.added (omega arith) o.added (λ i h. let up = o.within i h in omega arith);

@@ -44,6 +44,7 @@ module _ {T E : Type 0} (entries : T → List E) (mark_of : List E → ℕ) (mak
           some_share = λ _. another;
         };
         marks = record { glanced = own.marks.glanced; within = own.marks.within; enough = own.marks.enough };
+        ended = own.ended;
         compares = own.compares;
       } in
       let right : K new o = record {
@@ -58,6 +59,7 @@ module _ {T E : Type 0} (entries : T → List E) (mark_of : List E → ℕ) (mak
           some_share = λ _. refl;
         };
         marks = record { glanced = own.marks.glanced; within = own.marks.within; enough = own.marks.enough };
+        ended = own.ended;
         compares = own.compares;
       } in
       let others : (j : ℕ) (u : View E) → j ≢ id → get_elem? s.views j ≡ some u → K j u =
@@ -70,6 +72,7 @@ module _ {T E : Type 0} (entries : T → List E) (mark_of : List E → ℕ) (mak
           some_share = k.shares.some_share;
         };
         marks = k.marks;
+        ended = k.ended;
         compares = k.compares;
       } in
       record {

@@ -7,7 +7,7 @@ use lib.ListN.{get_elem?}
 use prog.Atomic.{either}
 use Rattle.std.specs.Prelude.{Option, Some, None}
 use Rattle.atomic_table.proofs.Lists.{at_set, set_here, set_else}
-use Rattle.tao_turn.specs.Views.{ticket_in, is_holder, is_live}
+use Rattle.tao_turn.specs.Views.{ticket_in, ticket_held, is_holder, is_live}
 use Rattle.tao_turn.specs.declared.view.Stage.{Stage}
 use Rattle.tao_turn.specs.declared.view.Stage.TheVariants.{Idle, Waiting, Holding, Unpublished, Spent}
 use Rattle.tao_turn.specs.declared.view.View.{View}
@@ -38,6 +38,13 @@ holder_lives (Waiting t) h = refl
 holder_lives (Holding t found) h = refl
 holder_lives Unpublished h = refl
 holder_lives Spent h = absurd (true≢false (sym h))
+
+pub holder_has : {E : Type 0} (s : Stage E) → is_holder s ≡ true → ticket_in s ≡ Some (ticket_held s)
+holder_has Idle h = absurd (true≢false (sym h))
+holder_has (Waiting t) h = absurd (true≢false (sym h))
+holder_has (Holding t found) h = refl
+holder_has Unpublished h = absurd (true≢false (sym h))
+holder_has Spent h = absurd (true≢false (sym h))
 
 pub ticket_lives : {E : Type 0} (s : Stage E) (t : ℕ) → ticket_in s ≡ Some t → is_live s ≡ true
 ticket_lives Idle t h = refl

@@ -1,7 +1,7 @@
 -- What one pass may know of the history: the list of the value's entries, which only grows.
-use Rattle.std.specs.Prelude.{◌≡◌, ℕ, ◌-◌, ◌<◌, ◌≤◌, max, List, [], ◌∷◌, ◌++◌, length, Option, Some, true, false, ◌⊎◌}
+use Rattle.std.specs.Prelude.{◌≡◌, ℕ, ◌+◌, ◌-◌, ◌<◌, ◌≤◌, max, List, [], ◌∷◌, ◌++◌, length, Option, Some, true, false, ◌⊎◌}
 use Rattle.std.specs.List.{range_with_len}
-use Rattle.tao_turn.specs.Lists.{Begins, longer, has, removed, merged, is_empty, RisesFrom}
+use Rattle.tao_turn.specs.Lists.{Begins, longer, has, removed, missing, merged, is_empty, RisesFrom}
 use Rattle.tao_turn.specs.declared.view.Knowledge.{Knowledge}
 
 -- no entry from position n on was made under one of these shares
@@ -19,11 +19,11 @@ HasAll seats shares = (n : ℕ) → n < seats → has n shares ≡ true
 module _ {E : Type 0} where
   -- a pass with these shares that has seen this list and nothing else
   abbrev pub newcomer : List E → List ℕ → Knowledge E
-  newcomer list shares = record { seen = list; added = []; told = 0; shares = shares }
+  newcomer list shares = record { ended = 0; seen = list; added = []; told = 0; shares = shares }
 
-  -- after a turn that found one list and left another
-  abbrev pub after_turn : Knowledge E → List E → List E → Knowledge E
-  after_turn k found left = record k { seen = left; added = k.added ++ range_with_len (length found) (length left - length found) }
+  -- after a turn with this ticket that found one list and left another
+  abbrev pub after_turn : Knowledge E → ℕ → List E → List E → Knowledge E
+  after_turn k ticket found left = record k { ended = ticket + 1; seen = left; added = k.added ++ range_with_len (length found) (length left - length found) }
 
   -- without the share n, which goes to a pass of its own
   abbrev pub without : ℕ → Knowledge E → Knowledge E
@@ -33,9 +33,15 @@ module _ {E : Type 0} where
   abbrev pub only : ℕ → Knowledge E → Knowledge E
   only n k = record k { shares = n ∷ []; added = [] }
 
+  -- tickets that were drawn and never served: no turns that the pass knows to have ended, and at most one for each share that it lacks
+  pub record AreLeftOut (seats : ℕ) (k : Knowledge E) (ticket serving : ℕ) : Type 0 where
+    pub ended : k.ended ≤ serving
+    pub some : serving < ticket
+    pub most : ticket ≤ serving + length (missing k.shares (range_with_len 0 seats))
+
   -- what two passes know together
   abbrev pub joined : Knowledge E → Knowledge E → Knowledge E
-  joined k m = record { seen = longer k.seen m.seen; added = merged k.added m.added; told = max k.told m.told; shares = merged k.shares m.shares }
+  joined k m = record { ended = max k.ended m.ended; seen = longer k.seen m.seen; added = merged k.added m.added; told = max k.told m.told; shares = merged k.shares m.shares }
 
   module _ (maker : List E → ℕ → Option ℕ) where
     -- a pass that knows k may find this list: it goes on from what was seen, nobody else made an entry under the pass's shares, and
@@ -60,7 +66,7 @@ module _ {E : Type 0} where
 -- each call leaves in order what a pass knows
 pub record StaysInOrder (E : Type 0) : Type 0 where
   pub made : (seats : ℕ) (list : List E) → 0 < seats → IsInOrder seats (newcomer list (range_with_len 0 seats))
-  pub left : (seats : ℕ) (k : Knowledge E) (found list : List E) → IsInOrder seats k → Begins k.seen found → Begins found list → IsInOrder seats (after_turn k found list)
+  pub left : (seats : ℕ) (k : Knowledge E) (ticket : ℕ) (found list : List E) → IsInOrder seats k → Begins k.seen found → Begins found list → IsInOrder seats (after_turn k ticket found list)
   pub glanced : (seats : ℕ) (k : Knowledge E) (mark : ℕ) → IsInOrder seats k → IsInOrder seats (record k { told = mark })
   pub cut : (seats : ℕ) (k : Knowledge E) (n : ℕ) → IsInOrder seats k → is_empty (removed n k.shares) ≡ false → IsInOrder seats (without n k)
   pub split : (seats : ℕ) (k : Knowledge E) (n : ℕ) → IsInOrder seats k → has n k.shares ≡ true → IsInOrder seats (only n k)

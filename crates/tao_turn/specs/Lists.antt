@@ -24,6 +24,11 @@ abbrev pub removed : ℕ → List ℕ → List ℕ
 removed n [] = []
 removed n (m ∷ ms) = if n == m then removed n ms else m ∷ removed n ms
 
+-- the numbers of the second list that the first doesn't have
+abbrev pub missing : List ℕ → List ℕ → List ℕ
+missing [] ns = ns
+missing (m ∷ ms) ns = removed m (missing ms ns)
+
 -- the number inserted before the first that is greater
 abbrev pub put_in : ℕ → List ℕ → List ℕ
 put_in n [] = n ∷ []

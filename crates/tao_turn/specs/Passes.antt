@@ -2,7 +2,7 @@
 use Rattle.std.specs.Prelude.{◌≡◌, ℕ, List, [], ◌∷◌, Bool, true, None}
 use base.Stored.{Coded}
 use Rattle.atomic_table.specs.Seated.{TableId, table_id_coded}
-use Rattle.tao_turn.specs.Views.{is_holder, list_found, are_idle, known_in}
+use Rattle.tao_turn.specs.Views.{is_holder, ticket_held, list_found, are_idle, known_in}
 use Rattle.tao_turn.specs.declared.view.Knowledge.{Knowledge}
 use Rattle.tao_turn.specs.declared.lock.TurnLock.{TurnLock}
 use Rattle.tao_turn.specs.declared.pass.TurnPass.{TurnPass}
@@ -47,6 +47,10 @@ module _ {T E : Type 0} where
   -- the value that lies in a turn
   abbrev pub value_of : Held T E → T
   value_of held = held.value
+
+  -- its ticket: how many turns of the lock were before it
+  abbrev pub ticket_of : Held T E → ℕ
+  ticket_of held = ticket_held held.seat.me.0.stage
 
   -- the list that the turn found
   abbrev pub found : Held T E → List E

@@ -73,6 +73,7 @@ module _ {T E : Type 0} (entries : T → List E) (mark_of : List E → ℕ) (mak
   -- what holds of the view v, which is number j
   pub record Fits (serving next mark : ℕ) (place : Place T E) (drawer owner : ℕ → ℕ) (j : ℕ) (v : View E) : Type 0 where
     pub queued : IsQueued entries serving next place drawer j v.stage
+    pub ended : v.known.ended ≤ serving
     pub history : HasSeen maker (list_of entries place) (is_live v.stage) v.known
     pub shares : OwnsShares seats owner j (is_live v.stage) v.known.shares
     pub marks : IsMarked mark_of mark (is_settled v.stage) v.published v.known

@@ -26,9 +26,9 @@ module _ {T E : Type 0} where
     Left st m found m' = (x : T) → m.1 ≡ (0, Some x) ∷ [] → m' ≡ (left_view m.0 (entries x), [])
 
     module _ (mark_of : List E → ℕ) (maker : List E → ℕ → Option ℕ) where
-      -- the seat with the ticket t has the slot with some value
+      -- the seat with the ticket t has the slot with some value, and no turn that it knew of is later
       abbrev pub Took : ℕ → Sat T E → Sat T E → Type 0
-      Took t m m' = (x : T) × (m' ≡ (record m.0 { stage = Holding t (entries x) }, (0, Some x) ∷ m.1)) × MayFind maker mark_of m.0.known (entries x)
+      Took t m m' = (x : T) × (m' ≡ (record m.0 { stage = Holding t (entries x) }, (0, Some x) ∷ m.1)) × MayFind maker mark_of m.0.known (entries x) × (m.0.known.ended ≤ t)
 
       -- it is the seat's turn, and it has the slot, or nothing changed
       abbrev pub Looked : Step (Option T) → Sat T E → ℕ → Sat T E → Type 0

@@ -24,6 +24,14 @@ module _ {E : Type 0} where
   is_holder Unpublished = false
   is_holder Spent = false
 
+  -- the holder's ticket
+  abbrev pub ticket_held : Stage E → ℕ
+  ticket_held Idle = 0
+  ticket_held (Waiting t) = 0
+  ticket_held (Holding t found) = t
+  ticket_held Unpublished = 0
+  ticket_held Spent = 0
+
   -- the list that the holder found
   abbrev pub list_found : Stage E → List E
   list_found Idle = []
@@ -85,4 +93,4 @@ module _ {E : Type 0} where
 
   -- after the step that ends the turn
   abbrev pub left_view : View E → List E → View E
-  left_view v list = record v { stage = Unpublished; known = after_turn v.known (list_found v.stage) list }
+  left_view v list = record v { stage = Unpublished; known = after_turn v.known (ticket_held v.stage) (list_found v.stage) list }

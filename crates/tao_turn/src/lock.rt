@@ -1,7 +1,7 @@
 //! Makes a turn lock, and takes it apart.
 ghost use Rattle.std.specs.Prelude.{◌≡◌, ◌<◌, [], ◌∷◌, Some, IfOk, IfErr, IsOkAnd};
 ghost use Rattle.std.specs.List.{range_with_len};
-ghost use Rattle.tao_turn.specs.Histories.{newcomer, HasAll, MayFind};
+ghost use Rattle.tao_turn.specs.Histories.{newcomer, AreLeftOut, HasAll, MayFind};
 
 use crate::journal::Journal;
 use crate::pass::TurnPass;
@@ -65,7 +65,7 @@ impl<T: Journal> TurnLock<T> {
     pub fn close(self, pass: TurnPass<T::Entry>) -> Result<T, LeftOut>
         requires pass { IsPassOf self pass }
         ensures ok { IfOk result (λ value. MayFind T.maker T.mark_of (known pass) (T.entries value)) }
-        ensures left_out { IfErr result (λ e. e.serving < e.ticket) }
+        ensures left_out { IfErr result (λ e. AreLeftOut (seats_of self) (known pass) e.ticket e.serving) }
         ensures all { HasAll (seats_of self) (known pass).shares → IsOkAnd result (λ value. T.entries value ≡ (known pass).seen) }
     {
         let TurnLock { table } = self;

@@ -1,5 +1,5 @@
 //! A turn: a ticket is drawn, awaited and served; the value comes out and goes back, and its mark is published.
-ghost use Rattle.std.specs.Prelude.{◌≡◌, [], ◌∷◌, length, true};
+ghost use Rattle.std.specs.Prelude.{◌≡◌, ◌≤◌, [], ◌∷◌, length, true};
 ghost use Rattle.tao_turn.specs.Histories.{MayFind, OwnMade, after_turn};
 ghost use Rattle.tao_turn.specs.Lists.{Begins};
 ghost use Rattle.tao_turn.specs.Steps.{Took};
@@ -15,13 +15,14 @@ use crossbeam_utils::Backoff;
 use std::sync::Wait;
 
 impl<T: Journal> TurnLock<T> {
-    ghost use Rattle.tao_turn.specs.Passes.{IsPassOf, IsTurnOf, known, known_before, found, value_of};
+    ghost use Rattle.tao_turn.specs.Passes.{IsPassOf, IsTurnOf, known, known_before, ticket_of, found, value_of};
 
     /// Waits for a turn, and takes the value out.
     pub fn enter<R: Wait>(&self, rt: &R, pass: TurnPass<T::Entry>) -> Held<T>
         requires pass { IsPassOf self.now pass }
         ensures turn { IsTurnOf self.now result }
         ensures known { known_before result ≡ known pass }
+        ensures ticket { (known pass).ended ≤ ticket_of result }
         ensures found { found result ≡ T.entries (value_of result) }
         ensures follows { MayFind T.maker T.mark_of (known pass) (T.entries (value_of result)) }
     {
@@ -42,7 +43,7 @@ impl<T: Journal> TurnLock<T> {
         requires longer { Begins (found held) (T.entries (value_of held)) }
         requires own { OwnMade T.maker (T.entries (value_of held)) (length (found held)) (known_before held).shares }
         ensures pass { IsPassOf self.now result }
-        ensures known { known result ≡ after_turn (known_before held) (found held) (T.entries (value_of held)) }
+        ensures known { known result ≡ after_turn (known_before held) (ticket_of held) (found held) (T.entries (value_of held)) }
     {
         let Held { value, mut seat } = held;
         let mark = value.mark();

@@ -2,9 +2,10 @@
 
 use std::collections::LinkedList;
 
-/// What contracts see of a pass: the list that it has seen, the positions that were added in its turns, the mark that it last glanced,
-/// and its shares.
+/// What contracts see of a pass: how many turns of the lock it knows to have ended, the list that it has seen, the positions that were
+/// added in its turns, the mark that it last glanced, and its shares.
 pub struct Knowledge<E> {
+    pub ended: u64,
     pub seen: LinkedList<E>,
     pub added: LinkedList<u64>,
     pub told: u64,

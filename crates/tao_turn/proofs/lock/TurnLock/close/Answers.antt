@@ -1,9 +1,9 @@
 use Rattle.std.proofs.Common.{sym, ap, ◌∙◌, subst, rules}
 use Rattle.std.proofs.lemmas.Option.{none-some, same_Some}
-use Rattle.tao_turn.specs.Histories.{MayFind, HasAll}
+use Rattle.tao_turn.specs.Histories.{MayFind, AreLeftOut, HasAll}
 use Rattle.tao_turn.specs.Passes.{seats_of}
 use Rattle.tao_turn.specs.Views.{known_in}
-use Rattle.tao_turn.proofs.Ending.{closes, closes_alone}
+use Rattle.tao_turn.proofs.Ending.{closes, closes_alone, tells_left_out}
 use Rattle.tao_turn.proofs.lock.TurnLock.close.Goals as goal
 
 pub returns-then-ticket-serving-clause-all : goal.returns-then-ticket-serving-clause-all
@@ -11,6 +11,12 @@ returns-then-ticket-serving-clause-all g c =
     let known_is = ap known_in c.into_seat.ensures.2 in
     λ all. c.if-ticket-serving.true (closes_alone _ _ _ _ _ _ _ _ _ _ c.close_with-closed.ensures.values.2 (search rules) c.word-ticket.ensures c.word-serving.ensures
     (subst (λ k. HasAll (seats_of c.args.self) k.shares) known_is all))
+
+pub returns-then-ticket-serving-clause-left_out : goal.returns-then-ticket-serving-clause-left_out
+returns-then-ticket-serving-clause-left_out g c =
+    let known_is = ap known_in c.into_seat.ensures.2 in
+    subst (λ k. AreLeftOut (seats_of c.args.self) k c.word-ticket.result c.word-serving.result) (sym known_is)
+    (tells_left_out _ _ _ _ _ _ _ _ _ _ c.close_with-closed.ensures.values.2 (search rules) c.word-ticket.ensures c.word-serving.ensures c.if-ticket-serving.true)
 
 pub unreachable-requires : goal.unreachable-requires
 unreachable-requires g c =
