@@ -3,7 +3,7 @@ use Rattle.std.proofs.Math.Seq.{take-length}
 use Rattle.std.proofs.Common.{◌≡◌, inl, inr, ℕ, List, Option, Some, IfSome, Result, Ok, Err, OnOk, OnErr, sym, ap, ◌∙◌, subst, take, length, reverse}
 use Rattle.tao_base.specs.Session.{History}
 use Rattle.tao_base.specs.declared.failures.NoMemory as failures
-use Rattle.tao_desk.specs.Whole.{DeskState, IsSound, started}
+use Rattle.tao_plain_desk.specs.Whole.{DeskState, IsSound, started}
 use Rattle.tao_model.specs.Replies.{array_now}
 use Rattle.tao_text.specs.declared.script.Script.{Script}
 use Rattle.tao_text.specs.declared.script.Step.{Step}

@@ -3,7 +3,7 @@ use Rattle.std.proofs.Common.{◌≡◌, ℕ, ◌+◌, ◌<◌, List, [], ◌∷
 use Rattle.std.proofs.lemmas.List.{take_more}
 use Rattle.tao_base.specs.Session.{History}
 use Rattle.tao_text.specs.declared.script.Step.{Step}
-use Rattle.tao_desk.specs.Whole.{DeskState, words_left, arrivals_of, IsSound}
+use Rattle.tao_plain_desk.specs.Whole.{DeskState, words_left, arrivals_of, IsSound}
 use Rattle.taostore.specs.Playing.{PlaysStep, PlaysSteps}
 
 -- where the desk is after some of the steps

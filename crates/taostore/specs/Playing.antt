@@ -11,7 +11,7 @@ use Rattle.tao_tape.specs.Tapes.{key_word}
 use Rattle.tao_model.specs.Replies.{array_now}
 use Rattle.taostore.specs.declared.session.Played.{Played}
 use Rattle.taostore.specs.declared.session.Played.TheVariants.{Whole, Part, Nothing}
-use Rattle.tao_desk.specs.Whole.{started, arrivals_of, PlaysOne, IsSound}
+use Rattle.tao_plain_desk.specs.Whole.{started, arrivals_of, PlaysOne, IsSound}
 
 -- blocks with a load's value in place of the block that it names; as they were where there is no such block
 abbrev pub put_load : List (List ℕ) → Entry → List (List ℕ)

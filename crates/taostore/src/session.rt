@@ -5,13 +5,13 @@ ghost use Rattle.tao_base.specs.Limits.{session_limit};
 ghost use Rattle.tao_model.specs.Replies.{array_now};
 ghost use Rattle.tao_tape.specs.Tapes.{key_word};
 ghost use Rattle.tao_text.specs.Texts.{IsScript, IsEntryOf, IsStepOf};
-ghost use Rattle.tao_desk.specs.Whole.{words_left, arrivals_of, started, IsSound};
+ghost use Rattle.tao_plain_desk.specs.Whole.{words_left, arrivals_of, started, IsSound};
 ghost use Rattle.taostore.specs.Playing.{first_blocks, put_load, tape_of, words_of, PlaysStep, PlaysSteps, PlaysScript, Closes, IsPart};
 ghost use Rattle.taostore.specs.Unbuilt.{IsPlayable, is_whole};
 
 use std::alloc::Global;
 use tao_base::{Block, Blocks, Entry, NoMemory, Numbers, Op, Params};
-use tao_desk::{ArriveFault, Desk};
+use tao_plain_desk::{ArriveFault, Desk};
 use tao_record::Record;
 use tao_tape::{KeyTape, Tape};
 use tao_text::{Script, Step, Steps, What};

@@ -1,5 +1,5 @@
 use Rattle.std.proofs.Common.{◌≡◌, take}
-use Rattle.tao_desk.proofs.desk.copies.Given as goal
+use Rattle.tao_plain_desk.proofs.desk.copies.Given as goal
 
 abbrev pub invariant-loop-block : goal.invariant-loop-block
 invariant-loop-block l = l.copy ≡ take l.block-index l.blocks

@@ -11,8 +11,8 @@ use Rattle.tao_base.specs.Tree.{node_count}
 use Rattle.tao_model.specs.Events.{arrived}
 use Rattle.tao_model.specs.Lawful.{FollowsLawfully, OwesNone}
 use Rattle.tao_model.specs.Residence.{newest_write, Unaltered, HasEntriesOf}
-use Rattle.tao_desk.specs.declared.faults.ArriveFault.{ArriveFault}
-use Rattle.tao_desk.specs.declared.faults.ArriveFault.TheVariants.{SessionFull, NoBlock, BlockLength}
+use Rattle.tao_plain_desk.specs.declared.faults.ArriveFault.{ArriveFault}
+use Rattle.tao_plain_desk.specs.declared.faults.ArriveFault.TheVariants.{SessionFull, NoBlock, BlockLength}
 
 -- what contracts see of the desk: its record, and the words of its tape
 pub record DeskState : Type 0 where

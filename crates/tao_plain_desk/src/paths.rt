@@ -2,7 +2,7 @@
 ghost use Rattle.std.specs.Prelude.{◌≡◌, ◌+◌, ◌^◌, ◌<◌, ◌≤◌, length, map, All};
 ghost use Rattle.tao_base.specs.Tree.{node_count, path};
 ghost use Rattle.tao_model.specs.Trace.{nodes_in};
-ghost use Rattle.tao_desk.specs.Quiet.{AreEmpty, AreStamped, Stores, bucket_at, stamped};
+ghost use Rattle.tao_plain_desk.specs.Quiet.{AreEmpty, AreStamped, Stores, bucket_at, stamped};
 
 use tao_base::{Bucket, Buckets, Params, path_node};
 

@@ -4,7 +4,7 @@ ghost use Rattle.tao_base.specs.Array.{array_step, array_reply};
 ghost use Rattle.tao_base.specs.Limits.{Shape};
 ghost use Rattle.tao_model.specs.Events.{NamesBelow};
 ghost use Rattle.tao_model.specs.Requests.{word_for};
-ghost use Rattle.tao_desk.specs.Quiet.{placed, value_for};
+ghost use Rattle.tao_plain_desk.specs.Quiet.{placed, value_for};
 
 use std::alloc::Global;
 use std::mem;

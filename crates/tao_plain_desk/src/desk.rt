@@ -5,12 +5,12 @@ ghost use Rattle.tao_base.specs.Limits.{IsShape};
 ghost use Rattle.tao_base.specs.declared.session.Event.TheVariants.{Arrive, Done, Issue, Acked};
 ghost use Rattle.tao_model.specs.Replies.{array_now};
 ghost use Rattle.tao_model.specs.Trace.{nodes_in};
-ghost use Rattle.tao_desk.specs.declared.faults.ArriveFault.TheVariants.{Memory};
+ghost use Rattle.tao_plain_desk.specs.declared.faults.ArriveFault.TheVariants.{Memory};
 ghost use Rattle.tao_base.specs.Limits.{session_limit};
 ghost use Rattle.tao_base.specs.Tree.{node_count, leaf_of as leaf_of_word};
 ghost use Rattle.tao_model.specs.Lawful.{IsInRange};
-ghost use Rattle.tao_desk.specs.Quiet.{AreEmpty, AreStamped};
-ghost use Rattle.tao_desk.specs.Whole.{op_refusal as op_refusal_of, empty_load as empty_load_of, empty_bucket as empty_bucket_of};
+ghost use Rattle.tao_plain_desk.specs.Quiet.{AreEmpty, AreStamped};
+ghost use Rattle.tao_plain_desk.specs.Whole.{op_refusal as op_refusal_of, empty_load as empty_load_of, empty_bucket as empty_bucket_of};
 
 use crate::faults::ArriveFault;
 use crate::paths::{gather_to, stamp_all, store_to};
@@ -39,8 +39,8 @@ pub struct Desk {
 
 impl Model for Desk {
     ghost use Rattle.std.specs.Prelude.{◌≡◌};
-    ghost use Rattle.tao_desk.specs.Whole.{DeskState};
-    ghost use Rattle.tao_desk.specs.Quiet.{IsDesk};
+    ghost use Rattle.tao_plain_desk.specs.Whole.{DeskState};
+    ghost use Rattle.tao_plain_desk.specs.Quiet.{IsDesk};
 
     ghost Value = { DeskState };
 
@@ -50,7 +50,7 @@ impl Model for Desk {
 }
 
 impl Desk {
-    ghost use Rattle.tao_desk.specs.Whole.{started, arrivals_of, words_left, IsSound, PlaysOne, refusal};
+    ghost use Rattle.tao_plain_desk.specs.Whole.{started, arrivals_of, words_left, IsSound, PlaysOne, refusal};
 
     /// A desk whose record is the opening: each block has its word of the tape and its value.
     pub fn start(alloc: Global, p: Params, words: Numbers, blocks: Blocks) -> Result<Desk, NoMemory>

@@ -21,8 +21,8 @@ use Rattle.tao_model.specs.Residence.{last_touch, is_covered, departs, is_reside
 use Rattle.tao_model.specs.Lawful.{FollowsLawfully, MayBeDone, MayBeIssued, IsInForm}
 use Rattle.tao_model.specs.Trace.{nodes_in}
 use Rattle.tao_model.proofs.Places.{done_arrived}
-use Rattle.tao_desk.specs.Quiet.{IsServed, IsQuiet, four, AreStamped, Stores, MayPlay, QuietStep}
-use Rattle.tao_desk.proofs.PathList.{Climbs, path_climbs, path_filter, filter_same}
+use Rattle.tao_plain_desk.specs.Quiet.{IsServed, IsQuiet, four, AreStamped, Stores, MayPlay, QuietStep}
+use Rattle.tao_plain_desk.proofs.PathList.{Climbs, path_climbs, path_filter, filter_same}
 
 -- ---- lists of buckets
 

@@ -1,9 +1,9 @@
 use Rattle.std.proofs.Common.{◌∙◌, ◌+◌, ◌<◌, sym, ap, subst, slice_index}
 use Rattle.tao_base.specs.Limits.{session_limit}
 use Rattle.tao_model.specs.Lawful.{IsInRange}
-use Rattle.tao_desk.specs.Whole.{DeskState, PlaysOne, arrivals_of}
-use Rattle.tao_desk.proofs.DeskStep.{server_empty, gathered_ready, stored_nodes, do_one_step, plays_one, desk_sound, word_there, word_taken}
-use Rattle.tao_desk.proofs.desk.Desk.do_one.Goals as goal
+use Rattle.tao_plain_desk.specs.Whole.{DeskState, PlaysOne, arrivals_of}
+use Rattle.tao_plain_desk.proofs.DeskStep.{server_empty, gathered_ready, stored_nodes, do_one_step, plays_one, desk_sound, word_there, word_taken}
+use Rattle.tao_plain_desk.proofs.desk.Desk.do_one.Goals as goal
 
 pub gather_to-requires-clause-server_empty : goal.gather_to-requires-clause-server_empty
 gather_to-requires-clause-server_empty c = rw c.as_slice-3.ensures (server_empty _ _ _ _ _ _ _ c.self.invariant.1)

@@ -1,6 +1,6 @@
 use Rattle.std.proofs.Common.{◌<◌, length, arith}
-use Rattle.tao_desk.proofs.PathBuckets.{stamped_more}
-use Rattle.tao_desk.proofs.paths.stamp.Goals as goal
+use Rattle.tao_plain_desk.proofs.PathBuckets.{stamped_more}
+use Rattle.tao_plain_desk.proofs.paths.stamp.Goals as goal
 
 pub loop-i-preserved : goal.loop-i-preserved
 loop-i-preserved c =

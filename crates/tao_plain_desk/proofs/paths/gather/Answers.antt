@@ -1,7 +1,7 @@
 use Rattle.std.proofs.Common.{[], ◌≡◌, ◌<◌, ◌-◌, length, ap, ◌∙◌, arith}
 use Rattle.std.proofs.lemmas.List.Elements.{All-set}
-use Rattle.tao_desk.proofs.PathBuckets.{gathered_more, at_node}
-use Rattle.tao_desk.proofs.paths.gather.Goals as goal
+use Rattle.tao_plain_desk.proofs.PathBuckets.{gathered_more, at_node}
+use Rattle.tao_plain_desk.proofs.paths.gather.Goals as goal
 
 -- the bucket that was copied is the one at the path's node
 pub loop-depth-preserved : goal.loop-depth-preserved

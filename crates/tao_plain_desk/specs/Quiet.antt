@@ -17,7 +17,7 @@ use Rattle.tao_model.specs.Replies.{array_now}
 use Rattle.tao_model.specs.Residence.{last_touch, is_resident, bucket_of, newest_write, newest_version, Unaltered, HasEntriesOf}
 use Rattle.tao_model.specs.Lawful.{FollowsLawfully, IsInRange}
 use Rattle.tao_model.specs.Trace.{nodes_in}
-use Rattle.tao_desk.specs.Whole.{empty_bucket}
+use Rattle.tao_plain_desk.specs.Whole.{empty_bucket}
 
 -- what the server has at a node is its latest version, without entries
 pub record IsServed (o : Opening) (es : List Event) (w : ℕ) (bucket : Bucket) : Type 0 where

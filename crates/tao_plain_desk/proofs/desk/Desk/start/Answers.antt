@@ -1,7 +1,7 @@
 use Rattle.std.proofs.Common.{◌+◌, ◌∙◌, sym, ap, ap₂, take}
-use Rattle.tao_desk.specs.Whole.{empty_load, arrivals_of}
-use Rattle.tao_desk.proofs.DeskStep.{desk_start, desk_sound, words_at_start}
-use Rattle.tao_desk.proofs.desk.Desk.start.Goals as goal
+use Rattle.tao_plain_desk.specs.Whole.{empty_load, arrivals_of}
+use Rattle.tao_plain_desk.proofs.DeskStep.{desk_start, desk_sound, words_at_start}
+use Rattle.tao_plain_desk.proofs.desk.Desk.start.Goals as goal
 
 pub invariant_of-result : goal.invariant_of-result
 invariant_of-result c =

@@ -26,10 +26,10 @@ use Rattle.tao_model.specs.OneMore.{AfterArrive}
 use Rattle.tao_model.proofs.Stays.{newest_first, place_stays}
 use Rattle.tao_model.proofs.Places.{next_below}
 use Rattle.tao_model.proofs.OneMoreEvent.{one_more_arrive, own_word}
-use Rattle.tao_desk.specs.Whole.{DeskState, arrivals_of, words_left, IsSound, PlaysOne, empty_bucket, empty_load}
-use Rattle.tao_desk.specs.Quiet.{IsQuiet, AreEmpty, four, AreStamped, Stores, MayPlay, IsDesk, bucket_at, placed}
-use Rattle.tao_desk.proofs.QuietStep.{quiet_step, none_below, all_between, all_nodes, nodes_map}
-use Rattle.tao_desk.proofs.PathList.{path_climbs}
+use Rattle.tao_plain_desk.specs.Whole.{DeskState, arrivals_of, words_left, IsSound, PlaysOne, empty_bucket, empty_load}
+use Rattle.tao_plain_desk.specs.Quiet.{IsQuiet, AreEmpty, four, AreStamped, Stores, MayPlay, IsDesk, bucket_at, placed}
+use Rattle.tao_plain_desk.proofs.QuietStep.{quiet_step, none_below, all_between, all_nodes, nodes_map}
+use Rattle.tao_plain_desk.proofs.PathList.{path_climbs}
 
 -- where all arrivals are done, no real one on a block is under way
 none_open : (o : Opening) (es : List Event) (n : ℕ) (server : ℕ → Bucket) → IsQuiet o es n server → (id : ℕ)

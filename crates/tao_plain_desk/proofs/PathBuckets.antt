@@ -7,8 +7,8 @@ use Rattle.std.proofs.lemmas.List.Elements.{All-set, All-push}
 use Rattle.tao_base.specs.declared.storage.Bucket.{Bucket}
 use Rattle.tao_base.specs.Tree.{node_at, path}
 use Rattle.tao_model.specs.Trace.{nodes_in}
-use Rattle.tao_desk.specs.Whole.{empty_bucket, empty_load}
-use Rattle.tao_desk.specs.Quiet.{AreEmpty, AreStamped, bucket_at, stamped}
+use Rattle.tao_plain_desk.specs.Whole.{empty_bucket, empty_load}
+use Rattle.tao_plain_desk.specs.Quiet.{AreEmpty, AreStamped, bucket_at, stamped}
 
 -- what was gathered, to a depth
 abbrev pub gathered : List Bucket → ℕ → ℕ → ℕ → List Bucket
