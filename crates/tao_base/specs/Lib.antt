@@ -1,4 +1,5 @@
 pub mod Array
+pub mod Buckets
 pub mod Causes
 pub mod Images
 pub mod Items

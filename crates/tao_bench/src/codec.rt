@@ -1,6 +1,6 @@
 //! Buckets of four blocks of 64 bytes.
 ghost use Rattle.std.specs.Prelude.{◌≤◌, IfOk};
-ghost use Rattle.tao_bucket.specs.Encoding.{IsInForm};
+ghost use Rattle.tao_base.specs.Buckets.{IsInForm};
 
 use crate::checksum::checksum_of;
 use std::alloc::Global;

@@ -9,11 +9,13 @@ use Rattle.std.proofs.lemmas.List.{take-replicate, drop-replicate, take_more, ta
 use Rattle.std.proofs.lemmas.List.Elements.{recursion_from_All}
 use Rattle.tao_base.specs.Limits.{Shape}
 use Rattle.tao_base.specs.declared.storage.Entry.{Entry}
-use Rattle.tao_bucket.specs.Encoding.{HasBlock, AreInForm, id_of, slot_of, slots_of}
+use Rattle.tao_base.specs.Buckets.{AreInForm}
+use Rattle.tao_bucket.specs.Encoding.{HasBlock, id_of, slot_of, slots_of}
 use Rattle.tao_bucket.specs.Reading.{slot_at, id_field, may_follow, field_before, fault_at, slots_fault, first_of, entry_of, entry_at, entries_of}
 use Rattle.tao_bucket.proofs.Faults.{fault_by, dummy_by, entry_by}
 use Rattle.tao_bucket.proofs.Firsts.{given_more, none_more}
 use Rattle.tao_bucket.proofs.Pieces.{zeros, entry_slot, zero_slot}
+use Rattle.tao_bucket.proofs.Rising.{strictly}
 
 pub field_of_entry : (e : Entry) → e.id + 1 < 2 ^ 32 → id_field (slot_of e) ≡ e.id + 1
 field_of_entry e small = from_be_bytes-to_be_bytes_4 (e.id + 1) small
@@ -64,7 +66,7 @@ module _ (s : Shape) (es : List Entry) (form : AreInForm s es) (small : s.n < 2 
       let len : length (map id_of es) ≡ length es = length-map es id_of in
       let low = get_or-map id_of es j d 0 (omega arith) in
       let high = get_or-map id_of es (j + 1) d 0 within in
-      let up : get_or (map id_of es) j 0 < get_or (map id_of es) (j + 1) 0 = form.rising j (omega arith) in
+      let up : get_or (map id_of es) j 0 < get_or (map id_of es) (j + 1) 0 = strictly 0 es form.rising j (omega arith) in
       omega arith
 
   follows_at : (k : ℕ) (d : Entry) → k < length es → may_follow (field_before s.b slots k) ((get_or es k d).id + 1) ≡ true

@@ -3,6 +3,7 @@ pub mod Clear
 pub mod Faults
 pub mod Firsts
 pub mod Pieces
+pub mod Rising
 pub mod Stocks
 pub mod Taken
 pub mod Whole

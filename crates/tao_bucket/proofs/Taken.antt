@@ -11,11 +11,13 @@ use Rattle.std.proofs.lemmas.List.Elements.{All-nil, All-push}
 use Rattle.std.proofs.lemmas.List.Concat.{flat_map-append}
 use Rattle.tao_base.specs.Limits.{Shape}
 use Rattle.tao_base.specs.declared.storage.Entry.{Entry}
-use Rattle.tao_bucket.specs.Encoding.{HasBlock, AreInForm, id_of, slot_of, slots_of}
+use Rattle.tao_base.specs.Buckets.{AreInForm}
+use Rattle.tao_bucket.specs.Encoding.{HasBlock, id_of, slot_of, slots_of}
 use Rattle.tao_bucket.specs.Reading.{slot_at, id_field, may_follow, field_before, fault_at, slots_fault, entry_of, entry_at, entries_of}
 use Rattle.tao_bucket.proofs.Faults.{IsFaultless, faultless}
 use Rattle.tao_bucket.proofs.Firsts.{given_more, all_none}
 use Rattle.tao_bucket.proofs.Pieces.{zeros, take_parts}
+use Rattle.tao_bucket.proofs.Rising.{rises_all}
 
 -- ---- bytes
 
@@ -230,4 +232,4 @@ pub slots_taken : (s : Shape) (slots : List ℕ) → IsBytes slots → length sl
 unfolding slots_of
 slots_taken s slots bytes len none =
     let all = front_of s slots bytes len s.z (omega arith) (all_none (fault_at s.n s.b slots) s.z none) in
-    (record { few = all.few; rising = all.rising; ids = all.ids; values = all.values }, sym (take_all (s.z * (4 + s.b)) slots (omega arith)) ∙ all.front)
+    (record { few = all.few; rising = rises_all _ all.rising; ids = all.ids; values = all.values }, sym (take_all (s.z * (4 + s.b)) slots (omega arith)) ∙ all.front)

@@ -21,7 +21,8 @@ use Rattle.tao_tag.specs.Tags.{hmac, tag_key}
 use Rattle.tao_tag.proofs.Tagging.{length_hmac}
 use Rattle.tao_tape.specs.Keystream.{xored}
 use Rattle.tao_tape.proofs.Streams.{length_xored, xored_again, xored_fits}
-use Rattle.tao_bucket.specs.Encoding.{HasBlock, AreInForm, IsInForm, IsWritten, Encodes, header, slot_of, slots_of, body, tail, encoded, tag_of, format_of}
+use Rattle.tao_base.specs.Buckets.{AreInForm, IsInForm}
+use Rattle.tao_bucket.specs.Encoding.{HasBlock, IsWritten, Encodes, header, slot_of, slots_of, body, tail, encoded, tag_of, format_of}
 use Rattle.tao_base.specs.Transfers.{same}
 use Rattle.tao_base.proofs.TransferLemmas.{same_true, same_self}
 use Rattle.tao_bucket.specs.Reading.{header_version, header_nonce, header_fault, tail_fault, slots_fault, clear_slots, bucket_fault, read_bucket, entries_of}
@@ -209,7 +210,7 @@ small_node : (s : Shape) (bucket : Bucket) → IsShape s → IsInForm s bucket �
 small_node s bucket shape form =
     let height : s.l + 1 ≤ 17 = let l = shape.height_high in omega arith in
     let nodes : 2 ^ (s.l + 1) ≤ 2 ^ 17 = pow_mono height in
-    let high = form.node_high in
+    let high = form.high in
     omega arith
 
 pub encoding_of : (key : List ℕ) (s : Shape) (format : ℕ) (bucket : Bucket) (bytes : List ℕ) → IsShape s → IsInForm s bucket → bucket.version < 2 ^ 32 → bucket.nonce < 2 ^ 64

@@ -1,10 +1,9 @@
 -- The one encoding of each bucket in form.
 use Rattle.std.specs.Prelude.{◌≡◌, ◌==◌, ◌⊎◌, ℕ, ◌+◌, ◌-◌, ◌*◌, ◌^◌, ◌<◌, ◌≤◌, List, [], ◌∷◌, ◌++◌, length, map, replicate, All, if◌then◌else◌}
 use Rattle.std.specs.List.{flat_map}
-use Rattle.std.specs.List.Sorted.{IsStrictlyIncreasing}
 use Rattle.std.specs.Int.{w32, w64, to_be_bytes}
+use Rattle.tao_base.specs.Buckets.{AreInForm}
 use Rattle.tao_base.specs.Limits.{Shape}
-use Rattle.tao_base.specs.Tree.{node_count}
 use Rattle.tao_base.specs.declared.parameters.Form.{Form}
 use Rattle.tao_base.specs.declared.parameters.Form.TheVariants.{One, Two, Turn}
 use Rattle.tao_base.specs.declared.storage.Bucket.{Bucket}
@@ -27,19 +26,6 @@ IsBlock b value = length value ≡ b
 -- an entry whose value has b bytes
 abbrev pub HasBlock : ℕ → Entry → Type 0
 HasBlock b entry = length entry.value ≡ b
-
--- entries in form: at most z, by rising id, of the store's blocks
-pub record AreInForm (s : Shape) (entries : List Entry) : Type 0 where
-  pub few : length entries ≤ s.z
-  pub rising : IsStrictlyIncreasing (map id_of entries)
-  pub ids : All (λ e. e.id < s.n) entries
-  pub values : All (HasBlock s.b) entries
-
--- a bucket in form: of a node of the tree, with entries in form
-pub record IsInForm (s : Shape) (bucket : Bucket) : Type 0 where
-  pub node_low : 1 ≤ bucket.node
-  pub node_high : bucket.node ≤ node_count s.l
-  pub entries : AreInForm s bucket.entries
 
 -- the formats that a store of this form writes
 abbrev pub IsWritten : Form → ℕ → Type 0

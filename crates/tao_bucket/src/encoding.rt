@@ -1,7 +1,8 @@
 //! A bucket as bytes.
 ghost use Rattle.std.specs.Prelude.{◌≡◌, ◌<◌, ◌^◌, length};
 ghost use Rattle.tao_base.specs.Limits.{bucket_len, slots_len};
-ghost use Rattle.tao_bucket.specs.Encoding.{IsInForm, IsWritten, Encodes, body};
+ghost use Rattle.tao_base.specs.Buckets.{IsInForm};
+ghost use Rattle.tao_bucket.specs.Encoding.{IsWritten, Encodes, body};
 
 use crate::header::header_bytes;
 use crate::slots::write_slots;

@@ -3,7 +3,8 @@ ghost use Rattle.std.specs.Prelude.{◌≡◌, ◌↔◌, ◌<◌, ◌^◌, ◌+
 ghost use Rattle.tao_base.specs.Limits.{Shape, IsShape, bucket_len, slots_len};
 ghost use Rattle.tao_base.specs.Links.{header_node};
 ghost use Rattle.tao_base.specs.declared.storage.Bucket.{Bucket};
-ghost use Rattle.tao_bucket.specs.Encoding.{AreInForm, IsInForm, IsWritten, Encodes, encoded, tag_of};
+ghost use Rattle.tao_base.specs.Buckets.{AreInForm, IsInForm};
+ghost use Rattle.tao_bucket.specs.Encoding.{IsWritten, Encodes, encoded, tag_of};
 ghost use Rattle.tao_bucket.specs.Reading.{bucket_fault};
 
 /// A bucket in form has one encoding in each format.

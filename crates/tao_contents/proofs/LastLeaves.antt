@@ -2,7 +2,7 @@
 use Rattle.std.proofs.Common.{◌≡◌, ℕ, ◌<◌, ◌≤◌, Bool, true, false, cond, List, [], ◌∷◌, length, refl, ap, arith, nat_eq}
 use Rattle.std.proofs.lemmas.Bool.{ne_eqb, leb-true, ltb-true}
 use Rattle.tao_base.specs.declared.storage.Entry.{Entry}
-use Rattle.tao_model.specs.Placement.{Rises}
+use Rattle.tao_base.specs.Buckets.{Rises}
 use Rattle.tao_model.specs.Worked.{entry, zero}
 use Rattle.tao_contents.specs.Counting.{AreOfTree}
 use Rattle.tao_contents.specs.WorkedTrees.{only_at, TreesAreTold}

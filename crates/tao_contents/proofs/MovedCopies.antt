@@ -6,7 +6,8 @@ use Rattle.std.proofs.lemmas.Option.{none-some}
 use Rattle.tao_base.specs.declared.storage.Entry.{Entry}
 use Rattle.tao_base.specs.Limits.{Shape}
 use Rattle.tao_base.specs.Tree.{path, is_on_path}
-use Rattle.tao_model.specs.Placement.{Rises, look, first_copy, IsEvicted}
+use Rattle.tao_base.specs.Buckets.{Rises}
+use Rattle.tao_model.specs.Placement.{look, first_copy, IsEvicted}
 use Rattle.tao_model.specs.FreshCopy.{OneCopy}
 use Rattle.tao_model.specs.Evictions.{LiesOnce}
 use Rattle.tao_model.proofs.FallingPaths.{has}

@@ -7,7 +7,8 @@ use Rattle.std.proofs.lemmas.List.Sums.{sum_by-cons, sum_by-append}
 use Rattle.std.proofs.lemmas.List.Elements.{All-head, All-tail, All-weaker}
 use Rattle.tao_base.specs.declared.storage.Entry.{Entry}
 use Rattle.tao_base.specs.Tree.{node_count, is_on_path}
-use Rattle.tao_model.specs.Placement.{Rises, look}
+use Rattle.tao_base.specs.Buckets.{Rises}
+use Rattle.tao_model.specs.Placement.{look}
 use Rattle.tao_model.specs.FreshCopy.{OneCopy}
 use Rattle.tao_model.proofs.RisingEntries.{look_low, look_here, look_on}
 use Rattle.tao_model.proofs.PlacedEntries.{all_found}

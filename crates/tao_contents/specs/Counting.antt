@@ -4,7 +4,7 @@ use Rattle.std.specs.List.{range_with_len}
 use Rattle.tao_base.specs.declared.storage.Entry.{Entry}
 use Rattle.tao_base.specs.Limits.{Shape}
 use Rattle.tao_base.specs.Tree.{node_count, is_on_path}
-use Rattle.tao_model.specs.Placement.{Rises}
+use Rattle.tao_base.specs.Buckets.{Rises}
 use Rattle.tao_model.specs.FreshCopy.{FreshCopy}
 
 -- how many entries some nodes have of a block, in total

@@ -3,7 +3,8 @@ use Rattle.std.specs.Prelude.{◌≡◌, ℕ, ◌<◌, ◌⊎◌, ◌==◌, fals
 use Rattle.tao_base.specs.declared.storage.Entry.{Entry}
 use Rattle.tao_base.specs.Limits.{Shape}
 use Rattle.tao_base.specs.Tree.{path, is_on_path}
-use Rattle.tao_model.specs.Placement.{Rises, look, IsEvicted}
+use Rattle.tao_base.specs.Buckets.{Rises}
+use Rattle.tao_model.specs.Placement.{look, IsEvicted}
 use Rattle.tao_model.specs.FreshCopy.{OneCopy, FreshCopy}
 use Rattle.tao_held.specs.Steps.{found_copy, put}
 

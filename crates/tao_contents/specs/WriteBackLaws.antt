@@ -4,7 +4,8 @@ use Rattle.std.specs.List.{range_with_len}
 use Rattle.tao_base.specs.declared.storage.Entry.{Entry}
 use Rattle.tao_base.specs.Limits.{Shape}
 use Rattle.tao_base.specs.Tree.{node_count, path, is_on_path}
-use Rattle.tao_model.specs.Placement.{Rises, look, IsEvicted}
+use Rattle.tao_base.specs.Buckets.{Rises}
+use Rattle.tao_model.specs.Placement.{look, IsEvicted}
 use Rattle.tao_model.specs.FreshCopy.{FreshCopy, current_contents}
 use Rattle.tao_contents.specs.Counting.{entries_of}
 use Rattle.tao_contents.specs.CleanLaws.{AreAllClean}

@@ -12,7 +12,8 @@ use Rattle.tao_base.specs.Tree.{node_at, node_count, path}
 use Rattle.tao_base.proofs.TreeLemmas.{one_le_node}
 use Rattle.std.proofs.Math.Path.{fun_ext}
 use Rattle.tao_flush.specs.Laws.{LaidOutIs}
-use Rattle.tao_model.specs.Placement.{with_stash, Rises, look, IsPlaced, IsEvicted, may_evict, first_copy}
+use Rattle.tao_base.specs.Buckets.{Rises}
+use Rattle.tao_model.specs.Placement.{with_stash, look, IsPlaced, IsEvicted, may_evict, first_copy}
 use Rattle.tao_model.specs.Passes.{gather, gathered_from, one_pass}
 use Rattle.tao_model.specs.Evictions.{evicted}
 use Rattle.tao_model.proofs.OnePlacement.{placed_alike}

@@ -3,7 +3,8 @@ use Rattle.std.specs.Prelude.{◌≡◌, ℕ, ◌+◌, ◌*◌, ◌<◌, ◌≤�
 use Rattle.std.specs.List.{AllWithin, HoldsAt}
 use Rattle.tao_base.specs.declared.storage.Entry.{Entry}
 use Rattle.tao_base.specs.Limits.{Shape}
-use Rattle.tao_model.specs.Placement.{Rises, look}
+use Rattle.tao_base.specs.Buckets.{Rises}
+use Rattle.tao_model.specs.Placement.{look}
 
 -- an entry of a store: one of its blocks, with as many bytes as a block has
 abbrev pub IsEntry : Shape → Entry → Type 0

@@ -13,7 +13,8 @@ use Rattle.tao_model.specs.Events.{arrived, is_done}
 use Rattle.tao_model.specs.Requests.{is_settled}
 use Rattle.tao_model.specs.Residence.{is_resident}
 use Rattle.tao_model.specs.Replies.{ops}
-use Rattle.tao_model.specs.Placement.{Rises, look, first_copy}
+use Rattle.tao_base.specs.Buckets.{Rises}
+use Rattle.tao_model.specs.Placement.{look, first_copy}
 use Rattle.tao_model.specs.Passes.{gather}
 use Rattle.tao_model.specs.Evictions.{evicted}
 use Rattle.tao_model.specs.Lawful.{FollowsLawfully}

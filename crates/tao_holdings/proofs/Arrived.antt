@@ -13,7 +13,7 @@ use Rattle.tao_base.proofs.TreeLemmas.{one_le_node}
 use Rattle.tao_held.specs.Steps.{take_in, with_path}
 use Rattle.tao_flush.proofs.PathNodes.{depth_of}
 use Rattle.tao_model.proofs.FallingPaths.{has, on_path_has}
-use Rattle.tao_model.specs.Lawful.{IsInForm}
+use Rattle.tao_base.specs.Buckets.{IsInForm}
 use Rattle.tao_model.specs.Placement.{entries_at}
 use Rattle.tao_model.specs.Trace.{nodes_in}
 use Rattle.tao_subtree.specs.Residents.{SubtreeState, HasPlaces, KeepsRoom}

@@ -18,8 +18,8 @@ use Rattle.tao_flush.proofs.PathNodes.{on_own_path}
 use Rattle.tao_flush.proofs.PlacedLists.{list_at, lists_len}
 use Rattle.tao_model.proofs.FallingPaths.{has, on_path_has}
 use Rattle.tao_model.proofs.OneEviction.{one_eviction}
-use Rattle.tao_model.specs.Lawful.{IsInForm}
-use Rattle.tao_model.specs.Placement.{Rises, with_stash}
+use Rattle.tao_base.specs.Buckets.{IsInForm, Rises}
+use Rattle.tao_model.specs.Placement.{with_stash}
 use Rattle.tao_holdings.specs.Holding.{entries_of}
 use Rattle.tao_holdings.specs.Lists.{entries_in, AreNodes, relisted, Relists}
 use Rattle.tao_holdings.specs.Parts.{AreEmpty}
@@ -33,18 +33,20 @@ pub record FitNode (s : Shape) (entries : List Entry) : Type 0 where
 
 pub bucket_fits : (s : Shape) (b : Bucket) → IsInForm s b → FitNode s b.entries
 bucket_fits s b form = record {
-  fit = record { few = form.few; each = λ k d below. (form.ids k d below, form.values k d below) };
-  rising = form.rising;
+  fit = record { few = form.entries.few; each = λ k d below. (form.entries.ids k d below, form.entries.values k d below) };
+  rising = form.entries.rising;
 }
 
 pub bucket_form : (s : Shape) (b : Bucket) (entries : List Entry) → IsInForm s b → FitNode s entries → IsInForm s (record b { entries = entries })
 bucket_form s b entries form fits = record {
   low = form.low;
   high = form.high;
-  few = fits.fit.few;
-  rising = fits.rising;
-  ids = λ k d below. (fits.fit.each k d below).0;
-  values = λ k d below. (fits.fit.each k d below).1;
+  entries = record {
+    few = fits.fit.few;
+    rising = fits.rising;
+    ids = λ k d below. (fits.fit.each k d below).0;
+    values = λ k d below. (fits.fit.each k d below).1;
+  };
 }
 
 none_fit : (s : Shape) → FitNode s []

@@ -14,7 +14,7 @@ use Rattle.tao_flush.specs.Paths.{with_lists}
 use Rattle.tao_flush.specs.State.{StashState, PositionsState}
 use Rattle.tao_flush.proofs.Evicted.{with_lists_off}
 use Rattle.tao_model.proofs.FallingPaths.{has}
-use Rattle.tao_model.specs.Lawful.{IsInForm}
+use Rattle.tao_base.specs.Buckets.{IsInForm}
 use Rattle.tao_model.specs.Placement.{entries_at}
 use Rattle.tao_model.specs.Trace.{nodes_in}
 use Rattle.tao_subtree.specs.Residents.{SubtreeState, KeepsRoom}

@@ -8,7 +8,8 @@ use Rattle.tao_contents.proofs.MovedCopies.{put_is}
 use Rattle.tao_flush.specs.Blocks.{PutsValue}
 use Rattle.tao_flush.specs.State.{StashState, PositionsState}
 use Rattle.tao_model.specs.Passes.{gather}
-use Rattle.tao_model.specs.Placement.{Rises, look}
+use Rattle.tao_base.specs.Buckets.{Rises}
+use Rattle.tao_model.specs.Placement.{look}
 use Rattle.tao_model.proofs.RisingEntries.{same_entries}
 use Rattle.tao_subtree.specs.Residents.{SubtreeState}
 use Rattle.tao_base.specs.Limits.{Shape}

@@ -6,7 +6,7 @@ use Rattle.tao_base.specs.declared.storage.Entry.{Entry}
 use Rattle.tao_base.specs.Limits.{Shape, IsShape}
 use Rattle.tao_base.specs.Tree.{leaf_of, is_on_path}
 use Rattle.tao_flush.specs.Blocks.{IsStash}
-use Rattle.tao_model.specs.Lawful.{IsInForm}
+use Rattle.tao_base.specs.Buckets.{IsInForm}
 
 -- for each node its bucket if it is held, how many fetches under way cover it, its touch and its latest version; the entries of the stash;
 -- and the word of each block

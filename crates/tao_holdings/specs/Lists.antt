@@ -6,7 +6,7 @@ use Rattle.tao_base.specs.declared.storage.Bucket.{Bucket}
 use Rattle.tao_base.specs.declared.storage.Entry.{Entry}
 use Rattle.tao_base.specs.Limits.{Shape}
 use Rattle.tao_flush.specs.Paths.{with_lists}
-use Rattle.tao_model.specs.Lawful.{IsInForm}
+use Rattle.tao_base.specs.Buckets.{IsInForm}
 use Rattle.tao_model.specs.Placement.{entries_at}
 use Rattle.tao_model.specs.Trace.{nodes_in}
 use Rattle.tao_holdings.specs.Holding.{entries_of}

@@ -7,7 +7,7 @@ ghost use Rattle.tao_base.specs.Tree.{path, is_on_path};
 ghost use Rattle.tao_held.specs.Steps.{take_in, with_path, found_copy, value_or_zeros, put, evict};
 ghost use Rattle.tao_flush.specs.Blocks.{AreNodeEntries};
 ghost use Rattle.tao_flush.specs.Loads.{IsLoaded};
-ghost use Rattle.tao_model.specs.Lawful.{IsInForm};
+ghost use Rattle.tao_base.specs.Buckets.{IsInForm};
 ghost use Rattle.tao_model.specs.Placement.{entries_at};
 ghost use Rattle.tao_model.specs.Trace.{nodes_in};
 ghost use Rattle.tao_subtree.specs.Residents.{AreFew};

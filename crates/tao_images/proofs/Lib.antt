@@ -1,5 +1,4 @@
 pub mod Comparisons
-pub mod FormLemmas
 pub mod KnownLemmas
 pub mod OrderLemmas
 pub mod PathLemmas

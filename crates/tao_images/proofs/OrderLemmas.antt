@@ -13,16 +13,15 @@ use Rattle.tao_bucket.specs.Encoding.{encoded, format_of, tag_of}
 use Rattle.tao_base.specs.Transfers.{same}
 use Rattle.tao_base.proofs.TransferLemmas.{same_true, same_self}
 use Rattle.tao_bucket.proofs.Whole.{encoded_parts, tag_of_encoded}
-use Rattle.tao_model.specs.Lawful.{IsInForm}
+use Rattle.tao_base.specs.Buckets.{IsInForm}
 use Rattle.tao_model.specs.Trace.{nodes_in}
 use Rattle.tao_images.specs.Orders.{IsOrderOf, FitsLinks, order_limit}
 use Rattle.tao_images.specs.Paths.{piece}
-use Rattle.tao_images.proofs.FormLemmas.{form_there}
 use Rattle.tao_images.proofs.Refusals.{two_written}
 
 module _ (key : List ℕ) (s : Shape) (format : ℕ) (shape : IsShape s) where
   pub length_encoded : (bucket : Bucket) → IsInForm s bucket → length (encoded key s format bucket) ≡ bucket_len s
-  length_encoded bucket form = (encoded_parts key s format bucket shape (form_there s bucket form)).0
+  length_encoded bucket form = (encoded_parts key s format bucket shape form).0
 
   pub lengths : (buckets : List Bucket) → All (IsInForm s) buckets → AllByRecursion (λ bucket. length (encoded key s format bucket) ≡ bucket_len s) buckets
   lengths buckets forms = recursion_from_All (λ bucket. length (encoded key s format bucket) ≡ bucket_len s) buckets (All-weaker (IsInForm s) (λ bucket. length (encoded key s format bucket) ≡ bucket_len s) length_encoded buckets forms)
@@ -33,7 +32,7 @@ module _ (key : List ℕ) (s : Shape) (format : ℕ) (shape : IsShape s) where
   headers buckets i d forms within =
       let form : IsInForm s (get_or buckets i d) = All-get_or (IsInForm s) buckets i d within forms in
       ap header_node (joined_from (encoded key s format) (bucket_len s) buckets i d (lengths buckets forms) within)
-      ∙ (encoded_parts key s format (get_or buckets i d) shape (form_there s (get_or buckets i d) form)).1 (flat_map (encoded key s format) (drop (suc i) buckets))
+      ∙ (encoded_parts key s format (get_or buckets i d) shape form).1 (flat_map (encoded key s format) (drop (suc i) buckets))
 
 pub fits : (key : List ℕ) (s : Shape) (version nonce : ℕ) (buckets : List Bucket) (order : Order) → IsShape s → IsOrderOf key s version nonce buckets order
     → All (IsInForm s) buckets → length buckets ≤ order_limit s → FitsLinks s order
@@ -62,7 +61,7 @@ tags key s version nonce buckets order i bucket shape is forms two within here =
     ap (λ image. piece s image i) is.image ∙ bucket_joined (encoded key s format) (bucket_len s) buckets i bucket (lengths key s format shape buckets forms) long within
     ∙ ap (encoded key s format) (sym here)
     in
-    ap (drop (slots_len s.z s.b)) (image ∙ ap (λ f. encoded key s f bucket) two) ∙ tag_of_encoded key s bucket (two_written s version two) (form_there s bucket form).entries
+    ap (drop (slots_len s.z s.b)) (image ∙ ap (λ f. encoded key s f bucket) two) ∙ tag_of_encoded key s bucket (two_written s version two) form.entries
 
 -- ---- an order compared part by part
 

@@ -17,13 +17,12 @@ use Rattle.tao_bucket.specs.Reading.{bucket_fault, header_version, read_bucket}
 use Rattle.tao_bucket.proofs.Firsts.{all_none}
 use Rattle.tao_bucket.proofs.Taken.{IsBytes, bytes_take, bytes_drop}
 use Rattle.tao_bucket.proofs.Whole.{encoding_taken}
-use Rattle.tao_model.specs.Lawful.{IsInForm}
+use Rattle.tao_base.specs.Buckets.{IsInForm}
 use Rattle.tao_model.specs.Trace.{nodes_in}
 use Rattle.tao_images.specs.declared.nodes.Refused.{Refused}
 use Rattle.tao_images.specs.declared.nodes.Refused.TheVariants.{Damaged, Stale}
 use Rattle.tao_images.specs.Nodes.{Holds, node_refusal}
 use Rattle.tao_images.specs.Paths.{piece, refusal_at, path_refusal, read_at, buckets_read, IsReadFrom, AreReadFrom}
-use Rattle.tao_images.proofs.FormLemmas.{form_back}
 use Rattle.tao_images.proofs.KnownLemmas.{node_within}
 use Rattle.tao_images.proofs.Refusals.{held_by}
 
@@ -91,7 +90,7 @@ module _ (key : List ℕ) (s : Shape) (skipped : ℕ → Bool) (version : ℕ �
       let at = is.at in
       let low = one_le_node s.l leaf is.depth in
       let high = node_within s.l leaf is.depth small is.within in
-      form_back s bucket (record { node_low = omega arith; node_high = omega arith; entries = is.holds.encoded.entries })
+      record { low = omega arith; high = omega arith; entries = is.holds.encoded.entries }
 
   nodes_from : (a n : ℕ) → a + n ≤ s.l + 1 → nodes_in (filter_map (read_at key s skipped leaf path) (range_with_len a n)) ≡ filter (λ w. not (skipped w)) (map (node_at s.l leaf) (range_with_len a n))
   unfolding read_at

@@ -8,7 +8,7 @@ use Rattle.tao_base.specs.declared.storage.Bucket.{Bucket}
 use Rattle.tao_bucket.specs.Encoding.{format_of}
 use Rattle.tao_bucket.specs.Reading.{first_of, read_bucket}
 use Rattle.tao_bucket.specs.Rooms.{RoomState}
-use Rattle.tao_model.specs.Lawful.{IsInForm}
+use Rattle.tao_base.specs.Buckets.{IsInForm}
 use Rattle.tao_model.specs.Trace.{nodes_in}
 use Rattle.tao_images.specs.declared.nodes.Refused.{Refused}
 use Rattle.tao_images.specs.Nodes.{Holds, node_refusal}

@@ -4,13 +4,12 @@ ghost use Rattle.std.specs.List.{flat_map};
 ghost use Rattle.tao_base.specs.Limits.{bucket_len};
 ghost use Rattle.tao_base.specs.Transfers.{same};
 ghost use Rattle.tao_bucket.specs.Encoding.{IsWritten, encoded};
-ghost use Rattle.tao_model.specs.Lawful.{IsInForm};
+ghost use Rattle.tao_base.specs.Buckets.{IsInForm};
 ghost use Rattle.tao_model.specs.Trace.{nodes_in};
 ghost use Rattle.tao_images.specs.Orders.{IsOrderOf};
 
-use crate::orders::write_bucket;
 use tao_base::{Bucket, Order, Params, are_same};
-use tao_bucket::format_of;
+use tao_bucket::{encode_into, format_of};
 
 /// Whether the order sends these buckets with this version and this first nonce. Each bucket is encoded into the scratch bytes.
 pub fn is_order(
@@ -76,7 +75,7 @@ fn is_image(
             return false;
         }
         let (first, later) = rest.split_at(len);
-        write_bucket(p, key, format, bucket, bytes);
+        encode_into(bucket, p, key, format, bytes);
         if !are_same(first, bytes) {
             return false;
         }

@@ -5,19 +5,14 @@ ghost use Rattle.tao_base.specs.Limits.{Shape, IsShape, slots_len};
 ghost use Rattle.tao_base.specs.Tree.{node_at};
 ghost use Rattle.tao_base.specs.declared.storage.Bucket.{Bucket};
 ghost use Rattle.tao_base.specs.declared.storage.Order.{Order};
-ghost use Rattle.tao_bucket.specs.Encoding.{format_of, tag_of, IsInForm as IsWellFormed};
-ghost use Rattle.tao_model.specs.Lawful.{IsInForm};
+ghost use Rattle.tao_base.specs.Buckets.{IsInForm};
+ghost use Rattle.tao_bucket.specs.Encoding.{format_of, tag_of};
 ghost use Rattle.tao_model.specs.Residence.{HasEntriesOf};
 ghost use Rattle.tao_images.specs.declared.nodes.Refused.{Refused};
 ghost use Rattle.tao_images.specs.Honesty.{IsUnforged, HasTagOf};
 ghost use Rattle.tao_images.specs.Nodes.{Holds, IsRefusalOf};
 ghost use Rattle.tao_images.specs.Orders.{IsOrderOf, FitsLinks, order_limit};
 ghost use Rattle.tao_images.specs.Paths.{piece, path_refusal, buckets_read, AreReadFrom, IsKnownAlike};
-
-/// The codec and the laws of records mean the same buckets by those in form.
-pub fn forms_agree()
-    ensures { (s : Shape) (bucket : Bucket) → IsWellFormed s bucket ↔ IsInForm s bucket }
-{}
 
 /// A path is not refused whose nodes, but for those that are skipped, hold buckets of their latest writes.
 pub fn nothing_refused()

@@ -11,7 +11,7 @@ mod tests;
 
 pub use comparing::is_order;
 pub use laws::{
-    forms_agree, known_alike, nothing_refused, orders_fit, orders_have_tags, read_means,
+    known_alike, nothing_refused, orders_fit, orders_have_tags, read_means,
     refusal_means, unforged_is_honest,
 };
 pub use nodes::{Refused, read_node};

@@ -4,7 +4,7 @@ ghost use Rattle.std.specs.List.{flat_map};
 ghost use Rattle.tao_base.specs.Limits.{bucket_len};
 ghost use Rattle.tao_base.specs.Tree.{node_count};
 ghost use Rattle.tao_bucket.specs.Encoding.{IsWritten, encoded};
-ghost use Rattle.tao_model.specs.Lawful.{IsInForm};
+ghost use Rattle.tao_base.specs.Buckets.{IsInForm};
 ghost use Rattle.tao_model.specs.Trace.{nodes_in};
 ghost use Rattle.tao_images.specs.Orders.{IsOrderOf, IsOrderRoom};
 
@@ -84,17 +84,6 @@ fn write_image(p: &Params, key: &[u8; 32], format: u8, buckets: &[Bucket], image
     let len = p.bucket_len() as usize;
     for i in 0..buckets.len() {
         let at = i * len;
-        write_bucket(p, key, format, &buckets[i], &mut image[at..at + len]);
+        encode_into(&buckets[i], p, key, format, &mut image[at..at + len]);
     }
-}
-
-/// Writes the encoding of a bucket.
-#[tactic(auto, using(crate::proofs::FormLemmas::form_there))]
-pub(crate) fn write_bucket(p: &Params, key: &[u8; 32], format: u8, bucket: &Bucket, out: &mut [u8])
-    requires form { IsInForm p.now bucket.now }
-    requires format { IsWritten p.now.form format }
-    requires len { length out.old ≡ bucket_len p.now }
-    ensures { out.new ≡ encoded key.now p.now format bucket.now }
-{
-    encode_into(bucket, p, key, format, out);
 }

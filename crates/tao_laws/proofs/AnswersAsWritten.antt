@@ -11,7 +11,8 @@ use Rattle.tao_base.specs.Session.{Opening}
 use Rattle.tao_base.specs.Tree.{node_count}
 use Rattle.tao_model.specs.Events.{issues}
 use Rattle.tao_model.specs.Residence.{bucket_of, newest_write, newest_version, Unaltered, HasEntriesOf}
-use Rattle.tao_model.specs.Lawful.{FollowsLawfully, OpensWithLoad, IsInForm}
+use Rattle.tao_base.specs.Buckets.{IsInForm}
+use Rattle.tao_model.specs.Lawful.{FollowsLawfully, OpensWithLoad}
 use Rattle.tao_model.specs.LookBacks.{written_at}
 use Rattle.tao_model.specs.WholeRecords.{IsAt, before}
 use Rattle.tao_model.proofs.EventPlaces.{before_more, before_all, at_split, some_at}

@@ -15,8 +15,8 @@ use Rattle.tao_base.specs.Tree.{node_count}
 use Rattle.tao_model.specs.Events.{arrived, dones, issues, buckets_issued, has_fault, is_done, is_acked}
 use Rattle.tao_model.specs.Residence.{newest_version}
 use Rattle.tao_model.specs.Trace.{nodes_in}
-use Rattle.tao_model.specs.Placement.{Rises}
-use Rattle.tao_model.specs.Lawful.{IsInForm, IsInRange, IsOpening, MayFollow, FollowsLawfully, OwesNone, IsLawful, away_on_path, touched_after}
+use Rattle.tao_base.specs.Buckets.{IsInForm, Rises}
+use Rattle.tao_model.specs.Lawful.{IsInRange, IsOpening, MayFollow, FollowsLawfully, OwesNone, IsLawful, away_on_path, touched_after}
 use Rattle.tao_model.specs.Openings.{opening_load}
 use Rattle.tao_model.proofs.LoadedOpenings.{opens_so}
 
@@ -61,10 +61,12 @@ form_by s b h =
     record {
       low = leb-true 1 b.node p.0;
       high = leb-true b.node (node_count s.l) q.0;
-      few = leb-true (length b.entries) s.z r.0;
-      rising = rises_by 0 b.entries t.0;
-      ids = all_by (λ entry. nat_lt entry.id s.n) (λ entry. entry.id < s.n) (λ entry k. ltb-true entry.id s.n k) b.entries u.0;
-      values = all_by (λ entry. nat_eq (length entry.value) s.b) (λ entry. length entry.value ≡ s.b) (λ entry k. eqb-true (length entry.value) s.b k) b.entries u.1;
+      entries = record {
+        few = leb-true (length b.entries) s.z r.0;
+        rising = rises_by 0 b.entries t.0;
+        ids = all_by (λ entry. nat_lt entry.id s.n) (λ entry. entry.id < s.n) (λ entry k. ltb-true entry.id s.n k) b.entries u.0;
+        values = all_by (λ entry. nat_eq (length entry.value) s.b) (λ entry. length entry.value ≡ s.b) (λ entry k. eqb-true (length entry.value) s.b k) b.entries u.1;
+      };
     }
 
 abbrev op_test : Shape → Op → Bool

@@ -11,7 +11,8 @@ use Rattle.tao_base.specs.Tree.{node_count}
 use Rattle.tao_model.specs.Placement.{IsPlaced, may_load, block_below, entries_at}
 use Rattle.tao_model.specs.Trace.{nodes_in}
 use Rattle.tao_model.specs.Requests.{leaf_at}
-use Rattle.tao_model.specs.Lawful.{IsInForm, OpensWithLoad}
+use Rattle.tao_base.specs.Buckets.{IsInForm}
+use Rattle.tao_model.specs.Lawful.{OpensWithLoad}
 use Rattle.tao_model.specs.Evictions.{load_contents, first_bucket}
 use Rattle.tao_model.proofs.PlacedEntries.{entries_are_gathered}
 use Rattle.tao_model.specs.Openings.{OneOpening, OpensSo}
@@ -93,14 +94,16 @@ opens_so o is same = subst (λ loaded. OpensWithLoad (record { shape = o.shape; 
     in_form w low high = record {
       low = low;
       high = high;
-      few = p.room w (omega arith);
-      rising = p.rises w;
-      ids = All-weaker (λ entry. block_below o.shape.n o.first entry.id ≡ Some entry.value) (λ entry. entry.id < o.shape.n)
-          (λ entry is_block. ltb-true entry.id o.shape.n (cond_some (nat_lt entry.id o.shape.n) (block_at o.first entry.id) entry.value is_block).0) (contents w) (found w);
-      values = All-weaker (λ entry. block_below o.shape.n o.first entry.id ≡ Some entry.value) (λ entry. length entry.value ≡ o.shape.b)
-          (λ entry is_block.
-          let parts = cond_some (nat_lt entry.id o.shape.n) (block_at o.first entry.id) entry.value is_block in
-          let below = ltb-true entry.id o.shape.n parts.0 in
-          let all = is.blocks in
-          ap length (sym parts.1) ∙ is.values entry.id [] (omega arith)) (contents w) (found w);
+      entries = record {
+        few = p.room w (omega arith);
+        rising = p.rises w;
+        ids = All-weaker (λ entry. block_below o.shape.n o.first entry.id ≡ Some entry.value) (λ entry. entry.id < o.shape.n)
+            (λ entry is_block. ltb-true entry.id o.shape.n (cond_some (nat_lt entry.id o.shape.n) (block_at o.first entry.id) entry.value is_block).0) (contents w) (found w);
+        values = All-weaker (λ entry. block_below o.shape.n o.first entry.id ≡ Some entry.value) (λ entry. length entry.value ≡ o.shape.b)
+            (λ entry is_block.
+            let parts = cond_some (nat_lt entry.id o.shape.n) (block_at o.first entry.id) entry.value is_block in
+            let below = ltb-true entry.id o.shape.n parts.0 in
+            let all = is.blocks in
+            ap length (sym parts.1) ∙ is.values entry.id [] (omega arith)) (contents w) (found w);
+      };
     }

@@ -6,7 +6,8 @@ use Rattle.std.proofs.lemmas.List.Elements.{All-push, All-head, All-tail}
 use Rattle.std.proofs.lemmas.Option.{none-some}
 use Rattle.std.proofs.lemmas.List.Sums.{fold_more}
 use Rattle.tao_base.specs.declared.storage.Entry.{Entry}
-use Rattle.tao_model.specs.Placement.{Rises, look}
+use Rattle.tao_base.specs.Buckets.{Rises}
+use Rattle.tao_model.specs.Placement.{look}
 use Rattle.tao_model.specs.Passes.{Falls, Handed, handed, hand, hand_out, fill}
 use Rattle.tao_model.specs.PlacementLaws.{IsHanded, HandsOut, HandsMore, TakesLowest, FillPlaces}
 use Rattle.tao_model.proofs.RisingEntries.{Below, look_here, look_on, look_low, look_past}

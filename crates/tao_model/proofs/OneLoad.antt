@@ -6,7 +6,8 @@ use Rattle.tao_base.specs.declared.storage.Entry.{Entry}
 use Rattle.tao_base.specs.Limits.{Shape}
 use Rattle.tao_base.specs.Array.{block_at}
 use Rattle.tao_base.specs.Tree.{node_count, is_on_path}
-use Rattle.tao_model.specs.Placement.{Rises, look, IsPlaced, may_load, block_below, with_stash, entries_at}
+use Rattle.tao_base.specs.Buckets.{Rises}
+use Rattle.tao_model.specs.Placement.{look, IsPlaced, may_load, block_below, with_stash, entries_at}
 use Rattle.tao_model.specs.Evictions.{LoadGathers, LoadIsPlaced, OneLoad, block_entry, block_entries, load_contents, first_bucket, load_buckets}
 use Rattle.tao_model.proofs.OnePlacement.{one_placement, placed_alike}
 use Rattle.tao_model.proofs.OnePass.{pass_places}

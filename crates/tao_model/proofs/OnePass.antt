@@ -5,7 +5,8 @@ use Rattle.std.proofs.lemmas.Bool.{ne_eqb, eq-eqb, cases_lt, cases_eq, and_parts
 use Rattle.std.proofs.lemmas.List.{length_push}
 use Rattle.std.proofs.lemmas.List.Elements.{All-push, All-weaker}
 use Rattle.tao_base.specs.declared.storage.Entry.{Entry}
-use Rattle.tao_model.specs.Placement.{Rises, look, IsPlaced}
+use Rattle.tao_base.specs.Buckets.{Rises}
+use Rattle.tao_model.specs.Placement.{look, IsPlaced}
 use Rattle.tao_model.specs.Passes.{deepest, spot, put_at, put_next}
 use Rattle.tao_model.specs.PlacementLaws.{PassPlaces, PassMore, SpotAlike}
 use Rattle.std.proofs.lemmas.List.Sums.{fold_more}

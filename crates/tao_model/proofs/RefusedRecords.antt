@@ -1,10 +1,11 @@
 -- Which buckets are in form and which records are lawful, in worked cases.
-use Rattle.std.proofs.Common.{◌≡◌, ℕ, ◌<◌, ◌≤◌, true, false, List, [], ◌∷◌, All, slice_index, refl, ap, arith}
+use Rattle.std.proofs.Common.{◌≡◌, ℕ, ◌<◌, ◌≤◌, List, [], ◌∷◌, All, slice_index, refl, ap, arith}
 use Rattle.std.proofs.lemmas.Bool.{true≢false, ltb-true}
 use Rattle.std.proofs.lemmas.List.Elements.{All-head, All-tail}
 use Rattle.tao_base.specs.declared.storage.Bucket.{Bucket}
 use Rattle.tao_base.specs.Limits.{Shape}
-use Rattle.tao_model.specs.Lawful.{IsInForm, IsLawful}
+use Rattle.tao_base.specs.Buckets.{IsInForm}
+use Rattle.tao_model.specs.Lawful.{IsLawful}
 use Rattle.tao_model.specs.Worked.{entry, zero}
 use Rattle.tao_model.specs.WorkedRefusals.{FormsAreTold, both_taken, one_fetched, one_of_three, one_written, RefusalsAreTold}
 use Rattle.tao_model.proofs.LawfulTests.{form_by, lawful_by}
@@ -12,11 +13,11 @@ use Rattle.tao_model.proofs.LawfulTests.{form_by, lawful_by}
 pub forms_are_told : FormsAreTold
 forms_are_told = record {
   full = form_by _ _ refl;
-  falls = λ is. let wrong : 3 ≤ 1 = is.rising.1.0 in omega arith;
-  twice = λ is. let wrong : 2 ≤ 1 = is.rising.1.0 in omega arith;
-  many = λ is. let wrong : 3 ≤ 2 = is.few in omega arith;
-  no_block = λ is. let wrong : 3 < 3 = All-head (λ e. e.id < 3) (entry 3 zero) [] is.ids in omega arith;
-  short = λ is. let wrong : 3 ≡ 4 = is.values 0 (entry 0 []) (ltb-true 0 1 refl) in omega arith;
+  falls = λ is. let wrong : 3 ≤ 1 = is.entries.rising.1.0 in omega arith;
+  twice = λ is. let wrong : 2 ≤ 1 = is.entries.rising.1.0 in omega arith;
+  many = λ is. let wrong : 3 ≤ 2 = is.entries.few in omega arith;
+  no_block = λ is. let wrong : 3 < 3 = All-head (λ e. e.id < 3) (entry 3 zero) [] is.entries.ids in omega arith;
+  short = λ is. let wrong : 3 ≡ 4 = is.entries.values 0 (entry 0 []) (ltb-true 0 1 refl) in omega arith;
   stash = λ is. let wrong : 1 ≤ 0 = is.low in omega arith;
   past = λ is. let wrong : 4 ≤ 3 = is.high in omega arith;
 }
@@ -28,7 +29,7 @@ second_in_form s x y all = All-head (IsInForm s) y [] (All-tail (IsInForm s) x (
 pub refusals_are_told : RefusalsAreTold
 refusals_are_told = record {
   rises = lawful_by (both_taken (entry 0 zero ∷ entry 1 zero ∷ [])) refl refl refl refl;
-  falls = λ is. let wrong : 2 ≤ 0 = (second_in_form _ _ _ is.follows.2.1.in_form).rising.1.0 in omega arith;
+  falls = λ is. let wrong : 2 ≤ 0 = (second_in_form _ _ _ is.follows.2.1.in_form).entries.rising.1.0 in omega arith;
   pays = lawful_by (one_fetched (one_written 1 4 5 ∷ [])) refl refl refl refl;
   owes = λ is. let wrong : 1 < 1 = is.owes in omega arith;
   pays_late = λ is. let wrong : 1 < 1 = is.follows.0.2.0 in omega arith;

@@ -2,7 +2,8 @@
 use Rattle.std.specs.Prelude.{◌≡◌, ℕ, ◌<◌, ◌≤◌, ◌↔◌, List, [], ◌∷◌, ◌++◌, length, take, drop, insert, Some, None, All}
 use Rattle.std.specs.Option.{option_or}
 use Rattle.tao_base.specs.declared.storage.Entry.{Entry}
-use Rattle.tao_model.specs.Placement.{Rises, look, first_copy}
+use Rattle.tao_base.specs.Buckets.{Rises}
+use Rattle.tao_model.specs.Placement.{look, first_copy}
 use Rattle.tao_model.specs.Passes.{gather_one, gather, gathered_from}
 
 -- the first of some nodes that has a copy of the block, and that copy

@@ -15,16 +15,8 @@ use Rattle.tao_model.specs.Events.{arrived, dones, issues, acks, buckets_issued,
 use Rattle.tao_model.specs.Requests.{fetched_leaf, fetches, leaf_at}
 use Rattle.tao_model.specs.Residence.{last_touch, is_resident, newest_version}
 use Rattle.tao_model.specs.Trace.{nodes_in}
-use Rattle.tao_model.specs.Placement.{Rises, IsLoad}
-
--- a bucket that the store may write: a node of the tree, at most z entries with rising ids below n and values of b bytes
-pub record IsInForm (s : Shape) (bucket : Bucket) : Type 0 where
-  pub low : 1 ≤ bucket.node
-  pub high : bucket.node ≤ node_count s.l
-  pub few : length bucket.entries ≤ s.z
-  pub rising : Rises 0 bucket.entries
-  pub ids : All (λ entry. entry.id < s.n) bucket.entries
-  pub values : All (λ entry. length entry.value ≡ s.b) bucket.entries
+use Rattle.tao_base.specs.Buckets.{IsInForm}
+use Rattle.tao_model.specs.Placement.{IsLoad}
 
 -- an operation that the store accepts
 abbrev pub IsInRange : Shape → Op → Type 0

@@ -2,7 +2,8 @@
 use Rattle.std.specs.Prelude.{◌≡◌, ℕ, zero, suc, ◌+◌, ◌<◌, ◌≤◌, ◌==◌, nat_lt, Bool, true, ◌&&◌, if◌then◌else◌, List, [], ◌∷◌, ◌++◌, length, fold, Option, is_some, ⊤}
 use Rattle.std.specs.List.{list_any}
 use Rattle.tao_base.specs.declared.storage.Entry.{Entry}
-use Rattle.tao_model.specs.Placement.{Rises, look}
+use Rattle.tao_base.specs.Buckets.{Rises}
+use Rattle.tao_model.specs.Placement.{look}
 
 -- ---- gathering
 

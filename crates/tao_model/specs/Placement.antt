@@ -1,17 +1,13 @@
 -- Greedy placement: which node each block lies in after a load or an eviction. Node 0 is the stash.
-use Rattle.std.specs.Prelude.{◌≡◌, ℕ, ◌+◌, ◌<◌, ◌≤◌, ◌⊎◌, ◌==◌, nat_lt, Bool, true, false, ◌&&◌, if◌then◌else◌, List, [], ◌∷◌, length, Option, Some, None, is_some, All, ⊤}
+use Rattle.std.specs.Prelude.{◌≡◌, ℕ, ◌<◌, ◌≤◌, ◌⊎◌, ◌==◌, nat_lt, Bool, true, false, ◌&&◌, if◌then◌else◌, List, [], ◌∷◌, length, Option, Some, None, is_some, All}
 use Rattle.std.specs.List.{list_any}
 use Rattle.std.specs.Option.{option_or}
 use Rattle.tao_base.specs.declared.storage.Entry.{Entry}
 use Rattle.tao_base.specs.declared.storage.Bucket.{Bucket}
+use Rattle.tao_base.specs.Buckets.{Rises}
 use Rattle.tao_base.specs.Limits.{Shape}
 use Rattle.tao_base.specs.Tree.{node_count, is_on_path}
 use Rattle.tao_base.specs.Array.{block_at}
-
--- the ids rise, starting at k or above
-abbrev pub Rises : ℕ → List Entry → Type 0
-Rises k [] = ⊤
-Rises k (entry ∷ entries) = (k ≤ entry.id) × Rises (entry.id + 1) entries
 
 -- the value of the first entry with this id
 abbrev pub look : ℕ → List Entry → Option (List ℕ)

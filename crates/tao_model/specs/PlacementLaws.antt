@@ -1,7 +1,8 @@
 -- Laws of placement: there is exactly one, for a load and for an eviction, and there are several ways to compute it.
 use Rattle.std.specs.Prelude.{◌≡◌, ℕ, ◌+◌, ◌<◌, ◌≤◌, ◌⊎◌, Bool, true, List, length, take, filter, slice_index_or, Option, None, is_some, All}
 use Rattle.tao_base.specs.declared.storage.Entry.{Entry}
-use Rattle.tao_model.specs.Placement.{Rises, look, IsPlaced}
+use Rattle.tao_base.specs.Buckets.{Rises}
+use Rattle.tao_model.specs.Placement.{look, IsPlaced}
 use Rattle.tao_model.specs.Passes.{IsGathered, IsRound, spot, put_next, one_pass, hand, hand_out, fill}
 
 -- at most one: two placements have equal contents at every node and in the stash

@@ -13,7 +13,8 @@ use Rattle.tao_model.specs.Events.{arrived, dones, buckets_issued}
 use Rattle.tao_model.specs.Requests.{fetched_leaf}
 use Rattle.tao_model.specs.Residence.{newest_version}
 use Rattle.tao_model.specs.Trace.{nodes_in}
-use Rattle.tao_model.specs.Lawful.{IsInForm, IsInRange, IsOpening, MayFail, away_on_path, FollowsLawfully, OwesNone}
+use Rattle.tao_base.specs.Buckets.{IsInForm}
+use Rattle.tao_model.specs.Lawful.{IsInRange, IsOpening, MayFail, away_on_path, FollowsLawfully, OwesNone}
 use Rattle.tao_model.specs.LookBacks.{done_arrivals}
 
 -- the event at a place

@@ -8,7 +8,8 @@ use Rattle.tao_base.specs.declared.session.Event.TheVariants.{Arrive, Done, Issu
 use Rattle.tao_base.specs.declared.storage.Entry.{Entry}
 use Rattle.tao_base.specs.Limits.{shape}
 use Rattle.tao_base.specs.Session.{History}
-use Rattle.tao_model.specs.Lawful.{IsInForm, IsLawful}
+use Rattle.tao_base.specs.Buckets.{IsInForm}
+use Rattle.tao_model.specs.Lawful.{IsLawful}
 use Rattle.tao_model.specs.Worked.{bucket, entry, opening, history, zero, all_a, one_read, no_write_back_before_the_period}
 
 -- a node with these entries is in form in a tree of three nodes, for two of three blocks of four bytes each

@@ -18,7 +18,8 @@ use Rattle.tao_base.specs.Tree.{node_at, node_count, path, is_on_path}
 use Rattle.tao_model.specs.Events.{arrived, dones, issues, is_done}
 use Rattle.tao_model.specs.Requests.{any_below, fetches, fetched_leaf}
 use Rattle.tao_model.specs.Residence.{last_touch, is_covered, departs, is_resident, bucket_of, newest_write, newest_version, HasEntriesOf}
-use Rattle.tao_model.specs.Lawful.{FollowsLawfully, MayBeDone, MayBeIssued, IsInForm}
+use Rattle.tao_base.specs.Buckets.{IsInForm}
+use Rattle.tao_model.specs.Lawful.{FollowsLawfully, MayBeDone, MayBeIssued}
 use Rattle.tao_model.specs.Trace.{nodes_in}
 use Rattle.tao_model.proofs.Places.{done_arrived}
 use Rattle.tao_plain_desk.specs.Quiet.{IsServed, IsQuiet, four, AreStamped, Stores, MayPlay, QuietStep}
@@ -75,10 +76,12 @@ empty_in_form : (s : Shape) (bucket : Bucket) → 1 ≤ bucket.node → bucket.n
 empty_in_form s bucket low high empty = record {
   low = low;
   high = omega arith;
-  few = rw empty (omega arith);
-  rising = rw empty tt;
-  ids = rw empty (λ k d high. absurd (omega arith));
-  values = rw empty (λ k d high. absurd (omega arith));
+  entries = record {
+    few = rw empty (omega arith);
+    rising = rw empty tt;
+    ids = rw empty (λ k d high. absurd (omega arith));
+    values = rw empty (λ k d high. absurd (omega arith));
+  };
 }
 
 pub none_below : (f : ℕ → Bool) (n : ℕ) → ((i : ℕ) → i < n → f i ≡ false) → any_below f n ≡ false

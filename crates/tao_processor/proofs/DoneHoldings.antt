@@ -17,7 +17,8 @@ use Rattle.tao_base.specs.Tree.{leaf_of}
 use Rattle.tao_model.specs.Events.{arrived, dones, is_done, names, word_of}
 use Rattle.tao_model.specs.Requests.{is_real, fetched_leaf, position}
 use Rattle.tao_model.specs.Placement.{entries_at}
-use Rattle.tao_model.specs.Lawful.{FollowsLawfully, IsInForm}
+use Rattle.tao_base.specs.Buckets.{IsInForm}
+use Rattle.tao_model.specs.Lawful.{FollowsLawfully}
 use Rattle.tao_model.specs.OneMore.{with_one_more}
 use Rattle.tao_model.proofs.Stays.{newest_first}
 use Rattle.tao_flush.specs.Blocks.{IsEntry}
@@ -87,7 +88,7 @@ ids_below s st forms same w = subst (λ (u : Shape). All (λ entry. entry.id < u
   where
     node : (found : Option Bucket) → slice_index_or st.nodes w None ≡ found → All (λ entry. entry.id < st.shape.n) (entries_of found)
     node None is = All-nil (λ entry. entry.id < st.shape.n)
-    node (Some bucket) is = (subst (λ (there : Option Bucket). IfSome there (λ bucket. (bucket.node ≡ w) × IsInForm st.shape bucket)) is (forms.nodes w)).1.ids
+    node (Some bucket) is = (subst (λ (there : Option Bucket). IfSome there (λ bucket. (bucket.node ≡ w) × IsInForm st.shape bucket)) is (forms.nodes w)).1.entries.ids
 
     either : (t : Bool) → All (λ entry. entry.id < st.shape.n) (cond t st.stash (entries_of (slice_index_or st.nodes w None)))
     either true = stash_below st.shape st.stash forms.stash.each

@@ -18,7 +18,8 @@ use Rattle.tao_model.specs.Events.{arrived, dones, issues, acks, is_done, is_pad
 use Rattle.tao_model.specs.Requests.{is_real, fetches, fetched_leaf}
 use Rattle.tao_model.specs.Residence.{is_resident}
 use Rattle.tao_model.specs.Trace.{nodes_in}
-use Rattle.tao_model.specs.Lawful.{FollowsLawfully, MayFollow, IsInForm, touched_after}
+use Rattle.tao_base.specs.Buckets.{IsInForm}
+use Rattle.tao_model.specs.Lawful.{FollowsLawfully, MayFollow, touched_after}
 use Rattle.tao_model.specs.OneMore.{with_one_more}
 use Rattle.tao_held.specs.Held.{block_on}
 use Rattle.tao_held.proofs.Counts.{count_less}
@@ -100,7 +101,7 @@ ready_for_done x i taken is running may = record {
   open_yet = may.1.under_way;
   room = room_done x.shape x.ready (arrived es) (dones es) (issues es) (acks es) (pools_of x) counts (work.some i may.1.arrived may.1.under_way) is.pools;
   few = few;
-  fits = record { few = few; each = λ k d low. let form = may.1.in_form k d low in record { few = form.few; values = form.values } };
+  fits = record { few = few; each = λ k d low. let form = may.1.in_form k d low in record { few = form.entries.few; values = form.entries.values } };
   small = leaf_small o.shape.l _;
   nodes = may.1.nodes ∙ filter_agree (λ w. not (is_resident o es w)) (λ w. not (is_held x.holdings w)) (λ w. ap not (sym (is.held_is.nodes.residents w))) (path o.shape.l (fetched_leaf o es i));
   in_form = may.1.in_form;

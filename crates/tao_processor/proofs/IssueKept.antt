@@ -19,7 +19,8 @@ use Rattle.tao_base.specs.Limits.{Shape, session_limit}
 use Rattle.tao_base.specs.Tree.{node_count}
 use Rattle.tao_model.specs.Events.{arrived, dones, issues, acks, buckets_issued, has_fault}
 use Rattle.tao_model.specs.Residence.{last_touch}
-use Rattle.tao_model.specs.Lawful.{FollowsLawfully, MayBeIssued, IsInForm, touched_after}
+use Rattle.tao_base.specs.Buckets.{IsInForm}
+use Rattle.tao_model.specs.Lawful.{FollowsLawfully, MayBeIssued, touched_after}
 use Rattle.tao_model.specs.OneMore.{with_one_more}
 use Rattle.tao_model.proofs.NewestWrites.{newest_is_greatest}
 use Rattle.tao_model.proofs.Stays.{newest_first}

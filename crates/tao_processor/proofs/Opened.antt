@@ -18,11 +18,12 @@ use Rattle.tao_flush.specs.Loads.{IsLoaded}
 use Rattle.tao_model.specs.Requests.{leaf_at}
 use Rattle.tao_model.specs.Events.{word_of}
 use Rattle.tao_model.specs.Trace.{nodes_in}
-use Rattle.tao_model.specs.Placement.{Rises, IsPlaced, may_load, block_below, with_stash, entries_at}
+use Rattle.tao_base.specs.Buckets.{IsInForm, Rises}
+use Rattle.tao_model.specs.Placement.{IsPlaced, may_load, block_below, with_stash, entries_at}
 use Rattle.tao_model.specs.Evictions.{first_bucket, load_contents}
 use Rattle.tao_model.proofs.OneLoad.{load_pass}
 use Rattle.tao_model.proofs.OnePlacement.{one_placement, placed_alike}
-use Rattle.tao_model.specs.Lawful.{OpensWithLoad, IsOpening, IsInForm}
+use Rattle.tao_model.specs.Lawful.{OpensWithLoad, IsOpening}
 use Rattle.tao_tables.proofs.KeptAnswers.{served_at_start}
 use Rattle.tao_tables.proofs.KeptFlags.{flags_at_start}
 use Rattle.tao_tables.proofs.KeptRows.{rows_at_start, positions_at_start}
@@ -92,10 +93,12 @@ opens s words blocks loaded stash opening load forms = (
         record {
           low = subst (λ (x : Bucket). 1 ≤ x.node) (sym is) (omega arith);
           high = subst (λ (x : Bucket). x.node ≤ node_count s.l) (sym is) (omega (arith, low, long));
-          few = fits.few;
-          rising = subst (λ (x : Bucket). Rises 0 x.entries) (sym is) ((load_pass s leaf blocks).rises (1 + k));
-          ids = λ j e there. (fits.each j e there).0;
-          values = λ j e there. (fits.each j e there).1;
+          entries = record {
+            few = fits.few;
+            rising = subst (λ (x : Bucket). Rises 0 x.entries) (sym is) ((load_pass s leaf blocks).rises (1 + k));
+            ids = λ j e there. (fits.each j e there).0;
+            values = λ j e there. (fits.each j e there).1;
+          };
         }
 
 none_at : {X : Type 0} (n w : ℕ) (x d : X) → x ≡ d → get_or (replicate n x) w d ≡ d

@@ -10,7 +10,7 @@ use Rattle.std.proofs.lemmas.List.FromFn.{get_or-map-range_with_len, length-map-
 use Rattle.tao_base.specs.declared.storage.Bucket.{Bucket}
 use Rattle.tao_base.specs.declared.storage.Entry.{Entry}
 use Rattle.tao_base.specs.Limits.{Shape}
-use Rattle.tao_model.specs.Lawful.{IsInForm}
+use Rattle.tao_base.specs.Buckets.{IsInForm}
 use Rattle.tao_model.specs.Trace.{nodes_in}
 use Rattle.tao_holdings.specs.Holding.{HoldingsState, is_held, contents_in}
 use Rattle.tao_holdings.specs.Lists.{with_entries_of, with_buckets}
@@ -46,10 +46,7 @@ pub stamps_in_form : (s : Shape) (nodes : List ℕ) (v n : ℕ) → All (IsNodeO
 stamps_in_form s nodes v n tree = all_stamps (IsInForm s) nodes v n (λ k low. record {
   low = (tree k 0 low).low;
   high = (tree k 0 low).high;
-  few = omega arith;
-  rising = tt;
-  ids = All-nil (λ entry. entry.id < s.n);
-  values = All-nil (λ entry. length entry.value ≡ s.b);
+  entries = record { few = omega arith; rising = tt; ids = All-nil (λ entry. entry.id < s.n); values = All-nil (λ entry. length entry.value ≡ s.b) };
 })
 
 -- two exchanges leave all as it was

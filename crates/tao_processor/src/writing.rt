@@ -2,7 +2,7 @@
 ghost use Rattle.std.specs.Prelude.{◌≡◌, ℕ, ◌+◌, ◌-◌, ◌^◌, ◌<◌, ◌≤◌, true, [], length, All};
 ghost use Rattle.std.specs.List.Sorted.{IsStrictlyIncreasing};
 ghost use Rattle.tao_base.specs.declared.session.Event.TheVariants.{Issue};
-ghost use Rattle.tao_model.specs.Lawful.{IsInForm};
+ghost use Rattle.tao_base.specs.Buckets.{IsInForm};
 ghost use Rattle.tao_record.specs.State.{added, issue_len};
 ghost use Rattle.tao_holdings.specs.Holding.{is_held, contents_in};
 ghost use Rattle.tao_processor.specs.Steps.{IsNodeOf, IsEmpty, stamps, written_of, HoldsAgain};

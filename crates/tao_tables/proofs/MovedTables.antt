@@ -14,7 +14,8 @@ use Rattle.tao_model.specs.Events.{arrived, dones, is_done}
 use Rattle.tao_model.specs.Requests.{is_real, fetches, fetched_leaf, position}
 use Rattle.tao_model.specs.Residence.{last_touch, bucket_of, is_issued, is_covered, is_resident}
 use Rattle.tao_model.specs.Placement.{entries_at}
-use Rattle.tao_model.specs.Lawful.{FollowsLawfully, IsInForm, MayBeDone}
+use Rattle.tao_base.specs.Buckets.{IsInForm}
+use Rattle.tao_model.specs.Lawful.{FollowsLawfully, MayBeDone}
 use Rattle.tao_model.proofs.Stays.{newest_first}
 use Rattle.tao_model.proofs.Places.{done_arrived, leaf_stays_later}
 use Rattle.tao_held.specs.Counted.{count_below}
@@ -60,7 +61,7 @@ taken_below s (x ∷ taken) forms w = either (nat_eq x.node w) (taken_below s ta
     head = All-head (IsInForm s) x taken forms
 
     either : (b : Bool) → All (λ entry. entry.id < s.n) (entries_at taken w) → All (λ entry. entry.id < s.n) (cond b x.entries (entries_at taken w))
-    either true ih = head.ids
+    either true ih = head.entries.ids
     either false ih = ih
 
 -- only a real fetch has a value

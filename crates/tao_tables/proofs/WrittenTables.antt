@@ -11,7 +11,8 @@ use Rattle.tao_base.specs.Session.{Opening}
 use Rattle.tao_base.specs.Tree.{node_count}
 use Rattle.tao_model.specs.Events.{issues}
 use Rattle.tao_model.specs.Residence.{bucket_of, is_issued, newest_write, newest_version}
-use Rattle.tao_model.specs.Lawful.{IsInForm, OpensWithLoad, FollowsLawfully}
+use Rattle.tao_base.specs.Buckets.{IsInForm}
+use Rattle.tao_model.specs.Lawful.{OpensWithLoad, FollowsLawfully}
 use Rattle.tao_model.specs.WholeRecords.{before}
 use Rattle.tao_model.proofs.EventPlaces.{at_split}
 use Rattle.tao_model.proofs.FallingPaths.{has}

@@ -14,7 +14,8 @@ use Rattle.tao_model.specs.Events.{dones, issues, acks, buckets_issued}
 use Rattle.tao_model.specs.Requests.{fetched_leaf}
 use Rattle.tao_model.specs.Residence.{is_resident, newest_version}
 use Rattle.tao_model.specs.Trace.{nodes_in}
-use Rattle.tao_model.specs.Lawful.{IsInForm, MayBeIssued, OwesNone, FollowsLawfully, touched_after}
+use Rattle.tao_base.specs.Buckets.{IsInForm}
+use Rattle.tao_model.specs.Lawful.{MayBeIssued, OwesNone, FollowsLawfully, touched_after}
 use Rattle.tao_model.specs.WholeRecords.{IsAt}
 use Rattle.tao_model.specs.OneMore.{with_one_more}
 

@@ -8,7 +8,8 @@ use Rattle.tao_base.specs.Session.{Opening}
 use Rattle.tao_base.specs.Tree.{node_count}
 use Rattle.tao_model.specs.Residence.{is_issued, newest_write, newest_version}
 use Rattle.tao_model.specs.Trace.{nodes_in}
-use Rattle.tao_model.specs.Lawful.{IsInForm, OpensWithLoad, FollowsLawfully}
+use Rattle.tao_base.specs.Buckets.{IsInForm}
+use Rattle.tao_model.specs.Lawful.{OpensWithLoad, FollowsLawfully}
 use Rattle.tao_model.specs.WholeRecords.{IsAt}
 
 -- The nodes of a version are those of its write-back, wherever that stands in the record.

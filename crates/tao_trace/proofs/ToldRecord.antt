@@ -8,7 +8,8 @@ use Rattle.tao_base.specs.declared.storage.Bucket.{Bucket}
 use Rattle.tao_base.specs.declared.storage.Entry.{Entry}
 use Rattle.tao_base.specs.Session.{Opening}
 use Rattle.tao_model.specs.Residence.{newest_version}
-use Rattle.tao_model.specs.Lawful.{FollowsLawfully, IsOpening, IsInForm}
+use Rattle.tao_base.specs.Buckets.{IsInForm}
+use Rattle.tao_model.specs.Lawful.{FollowsLawfully, IsOpening}
 use Rattle.tao_trace.specs.Told.{told_opening, told_record, bare}
 
 one : {X : Type 0} (P : X → Type 0) (x : X) → P x → All P (x ∷ [])
@@ -42,7 +43,7 @@ opens = record {
 }
 
 form : (node version nonce : ℕ) → 1 ≤ node → node ≤ 3 → IsInForm told_opening.shape (bare node version nonce)
-form node version nonce low high = record { low = low; high = high; few = omega arith; rising = tt; ids = All-nil (λ (entry : Entry). entry.id < told_opening.shape.n); values = All-nil (λ (entry : Entry). length entry.value ≡ told_opening.shape.b) }
+form node version nonce low high = record { low = low; high = high; entries = record { few = omega arith; rising = tt; ids = All-nil (λ (entry : Entry). entry.id < told_opening.shape.n); values = All-nil (λ (entry : Entry). length entry.value ≡ told_opening.shape.b) } }
 
 abbrev since_0 : List Event
 since_0 = Arrive 0 (Write 0 (98 ∷ 98 ∷ 98 ∷ 98 ∷ [])) 1 ∷ []

@@ -1,6 +1,6 @@
 -- The bucket stays in form, and the `Room` fits it.
 use Rattle.std.proofs.Common.{◌≡◌, ◌≤◌}
-use Rattle.tao_bucket.specs.Encoding.{IsInForm}
+use Rattle.tao_base.specs.Buckets.{IsInForm}
 use Rattle.tao_bench.proofs.codec.checksum.Given as goal
 
 abbrev pub invariant-loop-nonce : goal.invariant-loop-nonce

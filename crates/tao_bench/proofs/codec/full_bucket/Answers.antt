@@ -6,7 +6,7 @@ pub returns : goal.returns
 returns c =
     let all = c.loop-id.invariant in
     record {
-      node_low = omega arith;
-      node_high = root_within c.args.p.now.l;
+      low = omega arith;
+      high = root_within c.args.p.now.l;
       entries = first_ids c.args.p.now c.loop-id.entries (record { id = 0; value = [] }) c.requires (omega arith) all.ids all.values;
     }

@@ -6,7 +6,7 @@ use Rattle.tao_base.specs.Limits.{Shape, IsShape, bucket_len}
 use Rattle.tao_base.specs.declared.storage.Bucket.{Bucket}
 use Rattle.tao_bucket.specs.Encoding.{encoded}
 use Rattle.tao_base.specs.Transfers.{same}
-use Rattle.tao_model.specs.Lawful.{IsInForm}
+use Rattle.tao_base.specs.Buckets.{IsInForm}
 use Rattle.tao_images.proofs.Comparisons.{none_left, one_less, same_nothing}
 use Rattle.tao_images.proofs.OrderLemmas.{length_encoded}
 use Rattle.tao_images.proofs.comparing.is_image.Goals as goal
@@ -32,7 +32,7 @@ returns-then-not-are_same c =
     let long = length_here c.args.key.now c.args.p.now c.args.format c.args.buckets.now i bucket c.bucket_len-len.ensures.shape c.requires.form c.loop-bucket-test.true c.bucket-item.is in
     one_less (encoded c.args.key.now c.args.p.now c.args.format) c.args.image.now c.loop-bucket.rest.now c.args.buckets.now i bucket c.bucket-item.is c.loop-bucket-test.true c.loop-bucket.invariant.left
     c.split_at.result.0.now c.split_at.result.1.now false c.split_at.ensures.by_index.0 (omega (arith, long, c.split_at.ensures.front_len, c.bucket_len-len.ensures.value))
-    (sym c.if-not-are_same.true ∙ c.are_same.ensures ∙ ap (same c.split_at.result.0.now) c.write_bucket.ensures)
+    (sym c.if-not-are_same.true ∙ c.are_same.ensures ∙ ap (same c.split_at.result.0.now) c.encode_into.ensures.written)
 
 pub loop-bucket-preserved : goal.loop-bucket-preserved
 loop-bucket-preserved c =
@@ -40,10 +40,10 @@ loop-bucket-preserved c =
     let bucket = c.bucket-item.result in
     let long = length_here c.args.key.now c.args.p.now c.args.format c.args.buckets.now i bucket c.bucket_len-len.ensures.shape c.requires.form c.loop-bucket-test.true c.bucket-item.is in
     record {
-      scratch = ap length c.write_bucket.ensures ∙ long;
+      scratch = ap length c.encode_into.ensures.written ∙ long;
       left = one_less (encoded c.args.key.now c.args.p.now c.args.format) c.args.image.now c.loop-bucket.rest.now c.args.buckets.now i bucket c.bucket-item.is c.loop-bucket-test.true c.loop-bucket.invariant.left
           c.split_at.result.0.now c.split_at.result.1.now true c.split_at.ensures.by_index.0 (omega (arith, long, c.split_at.ensures.front_len, c.bucket_len-len.ensures.value))
-          (sym c.if-not-are_same.false ∙ c.are_same.ensures ∙ ap (same c.split_at.result.0.now) c.write_bucket.ensures);
+          (sym c.if-not-are_same.false ∙ c.are_same.ensures ∙ ap (same c.split_at.result.0.now) c.encode_into.ensures.written);
     }
 
 pub returns : goal.returns

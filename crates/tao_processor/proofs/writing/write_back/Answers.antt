@@ -2,7 +2,7 @@ use Rattle.std.proofs.Common.{◌≡◌, ℕ, Bool, List, true, All, map, sym, a
 use Rattle.std.specs.List.Sorted.{IsStrictlyIncreasing}
 use Rattle.std.proofs.lemmas.List.Elements.{All-drop, All-map}
 use Rattle.tao_base.specs.declared.storage.Bucket.{Bucket}
-use Rattle.tao_model.specs.Lawful.{IsInForm}
+use Rattle.tao_base.specs.Buckets.{IsInForm}
 use Rattle.tao_model.specs.Trace.{nodes_in}
 use Rattle.tao_holdings.specs.Holding.{is_held, contents_in}
 use Rattle.tao_holdings.specs.Lists.{with_entries_of}

@@ -5,7 +5,7 @@ use Rattle.tao_base.specs.Session.{History}
 use Rattle.tao_model.specs.Events.{has_fault, dones, issues}
 use Rattle.tao_base.specs.declared.session.Event.{Event}
 use Rattle.tao_base.specs.declared.session.Event.TheVariants.{Issue}
-use Rattle.tao_model.specs.Lawful.{IsInForm}
+use Rattle.tao_base.specs.Buckets.{IsInForm}
 use Rattle.tao_record.specs.State.{issue_len, added}
 use Rattle.tao_holdings.specs.Holding.{HoldingsState, is_held, version_in, contents_in, written_at}
 use Rattle.tao_processor.specs.State.{ProcessorState}
