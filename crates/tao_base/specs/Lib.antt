@@ -1,6 +1,7 @@
 pub mod Array
 pub mod Buckets
 pub mod Causes
+pub mod Doors
 pub mod Images
 pub mod Items
 pub mod Limits

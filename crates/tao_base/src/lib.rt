@@ -2,7 +2,9 @@
 #![tactic(auto)]
 
 mod calls;
+mod doors;
 mod failures;
+mod gates;
 mod links;
 mod lists;
 mod parameters;
@@ -16,7 +18,9 @@ mod tests;
 mod transfers;
 
 pub use calls::{Op, Reply};
+pub use doors::{DoorFault, Doors, Duplex};
 pub use failures::{Failed, NoMemory};
+pub use gates::{Gate, HoldGate, OpenGate};
 pub use links::{Asked, Link};
 pub use lists::{Block, Blocks, Buckets, Image, Items, Numbers, Ops};
 pub use parameters::{Form, ParamFault, Params};

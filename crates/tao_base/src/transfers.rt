@@ -13,6 +13,7 @@ pub fn write_all<K: Sink>(sink: &mut K, bytes: &[u8]) -> Result<(), Failed>
     ensures ok { OnOk result (PutsAll K.put K.faults sink.old sink.new bytes.now) }
     ensures err { OnErr result (PutsPart K.put K.faults sink.old sink.new bytes.now) }
     ensures cause { HasCause (K.faults sink.old) (K.faults sink.new) result }
+    ensures apart { K.apart sink.new ≡ K.apart sink.old }
 {
     let mut at = 0;
     while at < bytes.len() {
@@ -28,6 +29,7 @@ pub fn fill<S: Source>(source: &mut S, room: &mut [u8]) -> Result<usize, Failed>
     ensures end { IfOk result (λ n. n < length room.old → IsAtEnd (S.left source.new)) }
     ensures err { OnErr result (ConsumesFewer (S.left source.old) (S.left source.new) (length room.old)) }
     ensures cause { HasCause (S.faults source.old) (S.faults source.new) result }
+    ensures beside { S.beside source.new ≡ S.beside source.old }
 {
     let mut at = 0;
     while at < room.len() {

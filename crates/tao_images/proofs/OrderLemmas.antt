@@ -4,7 +4,7 @@ use Rattle.std.specs.List.{All, AllByRecursion, flat_map}
 use Rattle.std.proofs.lemmas.List.Elements.{All-weaker, All-map, All-get_or, recursion_from_All}
 use Rattle.std.proofs.lemmas.List.{length-map, get_or-map}
 use Rattle.tao_base.specs.Limits.{Shape, IsShape, bucket_len, slots_len}
-use Rattle.tao_base.specs.Links.{header_node}
+use Rattle.tao_base.specs.Links.{header_node, FitsLinks, order_limit}
 use Rattle.tao_base.specs.Tree.{node_count}
 use Rattle.tao_base.specs.declared.storage.Bucket.{Bucket}
 use Rattle.tao_base.specs.declared.storage.Order.{Order}
@@ -15,7 +15,7 @@ use Rattle.tao_base.proofs.TransferLemmas.{same_true, same_self}
 use Rattle.tao_bucket.proofs.Whole.{encoded_parts, tag_of_encoded}
 use Rattle.tao_base.specs.Buckets.{IsInForm}
 use Rattle.tao_model.specs.Trace.{nodes_in}
-use Rattle.tao_images.specs.Orders.{IsOrderOf, FitsLinks, order_limit}
+use Rattle.tao_images.specs.Orders.{IsOrderOf}
 use Rattle.tao_images.specs.Paths.{piece}
 use Rattle.tao_images.proofs.Refusals.{two_written}
 

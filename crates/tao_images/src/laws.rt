@@ -2,6 +2,7 @@
 ghost use Rattle.std.specs.Prelude.{◌≡◌, ◌↔◌, ◌≤◌, ◌<◌, ◌^◌, ℕ, slice_index, Bool, false, List, Some, None, length, drop, All};
 ghost use Rattle.std.specs.List.{slice_index_or};
 ghost use Rattle.tao_base.specs.Limits.{Shape, IsShape, slots_len};
+ghost use Rattle.tao_base.specs.Links.{FitsLinks, order_limit};
 ghost use Rattle.tao_base.specs.Tree.{node_at};
 ghost use Rattle.tao_base.specs.declared.storage.Bucket.{Bucket};
 ghost use Rattle.tao_base.specs.declared.storage.Order.{Order};
@@ -11,7 +12,7 @@ ghost use Rattle.tao_model.specs.Residence.{HasEntriesOf};
 ghost use Rattle.tao_images.specs.declared.nodes.Refused.{Refused};
 ghost use Rattle.tao_images.specs.Honesty.{IsUnforged, HasTagOf};
 ghost use Rattle.tao_images.specs.Nodes.{Holds, IsRefusalOf};
-ghost use Rattle.tao_images.specs.Orders.{IsOrderOf, FitsLinks, order_limit};
+ghost use Rattle.tao_images.specs.Orders.{IsOrderOf};
 ghost use Rattle.tao_images.specs.Paths.{piece, path_refusal, buckets_read, AreReadFrom, IsKnownAlike};
 
 /// A path is not refused whose nodes, but for those that are skipped, hold buckets of their latest writes.

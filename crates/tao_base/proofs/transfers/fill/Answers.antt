@@ -10,4 +10,5 @@ loop-at-preserved g c =
       within = more.0;
       came = more.1;
       unfailed = c.in_ok-n.ensures.cause.kept ∙ c.loop-at.invariant.unfailed;
+      beside = c.in_ok-n.ensures.beside ∙ c.loop-at.invariant.beside;
     }
