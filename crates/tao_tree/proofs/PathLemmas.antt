@@ -1,4 +1,4 @@
--- A path that is read bucket after bucket, and the path of an empty tree.
+-- A path that is read bucket after bucket, and the nodes of an empty tree.
 use Rattle.std.proofs.Common.{◌≡◌, ℕ, zero, suc, ◌+◌, ◌-◌, ◌*◌, ◌<◌, ◌≤◌, List, [], ◌∷◌, ◌++◌, length, map, take, replicate, slice_index_or, Option, None, refl, sym, ap, ap₂, ◌∙◌, arith, append-nil, add-one}
 use Rattle.std.specs.List.{flat_map, range_with_len}
 use Rattle.std.proofs.lemmas.List.{replicate-append-replicate}
@@ -33,19 +33,3 @@ pub none_at : (n i : ℕ) → slice_index_or {A = Option Held} (replicate n None
 none_at zero i = refl
 none_at (suc n) zero = refl
 none_at (suc n) (suc i) = none_at n i
-
-empty_at : (s : Shape) (node : ℕ) → bytes_at (empty_tree s) node ≡ replicate (bucket_len s) 0
-unfolding bytes_at
-empty_at s node = ap (bytes_of (bucket_len s)) (none_at (node_count s.l) (node - 1))
-
-empty_on : (s : Shape) (nodes : List ℕ) → replicate (length nodes * bucket_len s) 0 ≡ flat_map (bytes_at (empty_tree s)) nodes
-empty_on s [] = let none : length {A = ℕ} [] * bucket_len s ≡ 0 = omega arith in ap (λ (n : ℕ). replicate n 0) none
-empty_on s (node ∷ nodes) =
-    let size : suc (length nodes) * bucket_len s ≡ bucket_len s + length nodes * bucket_len s = omega (arith, suc-mul (length nodes) (bucket_len s)) in
-    ap (λ n. replicate n 0) size ∙ sym (replicate-append-replicate (bucket_len s) (length nodes * bucket_len s) 0) ∙ ap₂ (λ (xs ys : List ℕ). xs ++ ys) (sym (empty_at s node)) (empty_on s nodes)
-
--- the path of an empty tree is zeros
-pub empty_path : (s : Shape) (leaf n : ℕ) → n ≡ (s.l + 1) * bucket_len s → replicate n 0 ≡ flat_map (bytes_at (empty_tree s)) (path s.l leaf)
-empty_path s leaf n h =
-    let count : length (path s.l leaf) ≡ s.l + 1 = length-map-range_with_len (node_at s.l leaf) 0 (s.l + 1) in
-    ap (λ m. replicate m 0) (h ∙ ap (λ k. k * bucket_len s) (sym count)) ∙ empty_on s (path s.l leaf)

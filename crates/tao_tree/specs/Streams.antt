@@ -97,6 +97,12 @@ abbrev pub storing : ℕ → List ℕ → Exchange
 storing version image = record { sent = frame (Store version image); IsWanted = AnswersStore version; len = 5 }
 
 module _ {S K : Type 0} (h : Halves S K) (e : Exchange) (old new : StreamState S K) where
+  -- The call was answered: its frame was put, and just the frame of this answer was read.
+  pub record IsAnswered (answer : Message) : Type 0 where
+    pub sent : PutsAll h.put h.sink_faults old.sink new.sink e.sent
+    pub came : Consumes (h.left old.source) (h.left new.source) (frame answer)
+    pub uncounted : new.wrong ≡ old.wrong
+
   -- The call failed at the sink: a prefix of its frame was put, and nothing was read.
   pub record FailsToSend : Type 0 where
     pub part : PutsPart h.put h.sink_faults old.sink new.sink e.sent

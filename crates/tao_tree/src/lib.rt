@@ -7,6 +7,7 @@ mod laws;
 mod ledger;
 mod mem_link;
 mod paths;
+mod planted;
 mod shared;
 mod stream_link;
 #[cfg(test)]
@@ -17,6 +18,7 @@ mod tree_link;
 pub use forgeries::Forgery;
 pub use laws::newest_stays;
 pub use mem_link::MemLink;
+pub use planted::Shaped;
 pub use shared::SharedTree;
 pub use stream_link::StreamLink;
 pub use tree::Tree;

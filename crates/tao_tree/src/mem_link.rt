@@ -9,6 +9,7 @@ ghost use Rattle.tao_tree.specs.Forging.{IsForgedPath, has_room, telling, with_a
 
 use crate::forgeries::{Forgery, forge_path};
 use crate::ledger::Ledger;
+use crate::planted::Shaped;
 use crate::shared::SharedTree;
 use std::alloc::Global;
 use std::marker::Model;
@@ -17,9 +18,9 @@ use tao_base::{Failed, Items, Link, NoMemory, Numbers, Order, is_listed};
 
 /// A link to a tree. Its log has the capacity that `reserve` made: a call beyond it isn't logged and fails.
 #[derive(Drop)]
-pub struct MemLink<'t> {
+pub struct MemLink<'t, J: Shaped> {
     alloc: Global,
-    tree: &'t SharedTree,
+    tree: &'t SharedTree<J>,
     ledger: Ledger,
     fails: Numbers,
     calls: u64,
@@ -27,7 +28,7 @@ pub struct MemLink<'t> {
     forgeries: Items<Forgery>,
 }
 
-impl<'t> Model for MemLink<'t> {
+impl<'t, J: Shaped> Model for MemLink<'t, J> {
     ghost use Rattle.std.specs.Prelude.{◌≡◌, ◌+◌, ◌*◌};
     ghost use Rattle.tao_base.specs.Limits.{bucket_len};
     ghost use Rattle.tao_tree.specs.Forging.{LinkState, LinksTo};
@@ -48,11 +49,11 @@ impl<'t> Model for MemLink<'t> {
     ghost invariant = { λ l. LinksTo l.tree.now l.ledger };
 }
 
-impl<'t> MemLink<'t> {
+impl<'t, J: Shaped> MemLink<'t, J> {
     ghost use Rattle.tao_tree.specs.Forging.{new_link};
 
     /// A link whose calls with the numbers in `fails`, counted from 0, fail. Its log has no capacity yet.
-    pub fn new(alloc: Global, tree: &'t SharedTree, fails: Numbers) -> MemLink<'t>
+    pub fn new(alloc: Global, tree: &'t SharedTree<J>, fails: Numbers) -> MemLink<'t, J>
         ensures { result ≡ new_link tree.now fails }
     {
         let p = tree.params();
@@ -86,7 +87,7 @@ impl<'t> MemLink<'t> {
     }
 }
 
-impl<'t> Link for MemLink<'t> {
+impl<'t, J: Shaped> Link for MemLink<'t, J> {
     ghost faults = { λ s. s.faults };
 
     ghost reach = { λ s. reach_of s.shape };

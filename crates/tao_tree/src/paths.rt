@@ -24,7 +24,8 @@ pub(crate) fn read_path(tree: &Tree, leaf: u32, out: &mut [u8])
 /// Applies each bucket of the image at the node in its header, with this version and not the one in its header.
 pub(crate) fn apply_all(tree: &mut Tree, version: u32, image: &[u8])
     requires { IsTreeImage tree.old.shape image.now }
-    ensures { tree.new ≡ all_applied tree.old version image.now }
+    ensures value { tree.new ≡ all_applied tree.old version image.now }
+    ensures shape { tree.new.shape ≡ tree.old.shape }
 {
     let len = tree.params().bucket_len() as usize;
     for i in 0..image.len() / len {

@@ -2,39 +2,41 @@
 ghost use Rattle.std.specs.Prelude.{◌≡◌, ◌+◌, ◌*◌, ◌^◌, ◌<◌, length};
 ghost use Rattle.tao_base.specs.Limits.{IsShape, bucket_len};
 
-use crate::paths::{apply_all, read_path};
+use crate::planted::{Planted, Shaped};
 use crate::tree::Tree;
 use std::marker::Model;
 use std::sync::{Mutex, Wait};
 use tao_base::Params;
 
-/// A tree behind a lock.
+/// A tree behind a lock, which keeps the parameters that `J` names.
 #[derive(Drop)]
-pub struct SharedTree {
+pub struct SharedTree<J: Shaped> {
     p: Params,
-    tree: Mutex<Tree>,
+    tree: Mutex<Planted<J>>,
 }
 
-impl Model for SharedTree {
+impl<J: Shaped> Model for SharedTree<J> {
+    ghost use Rattle.std.specs.Prelude.{◌≡◌};
     ghost use Rattle.tao_base.specs.Limits.{Shape, IsShape};
 
     ghost Value = { Shape };
 
     ghost view = { λ s. s.p };
 
-    ghost invariant = { λ s. IsShape s.p };
+    ghost invariant = { λ s. (s.p ≡ J.shape) × IsShape s.p };
 }
 
-impl SharedTree {
+impl<J: Shaped> SharedTree<J> {
     ghost use Rattle.tao_tree.specs.Nodes.{IsSomePath, IsTreeImage};
 
     /// Puts the tree behind a lock.
-    pub fn new(tree: Tree) -> SharedTree
+    pub fn new(tree: Tree) -> SharedTree<J>
+        requires { tree.shape ≡ J.shape }
         ensures { result ≡ tree.shape }
     {
         SharedTree {
             p: *tree.params(),
-            tree: Mutex::new(tree),
+            tree: Mutex::new(Planted::new(tree)),
         }
     }
 
@@ -53,27 +55,20 @@ impl SharedTree {
         requires len { length out.old ≡ (self.now.l + 1) * bucket_len self.now }
         ensures { IsSomePath self.now leaf out.new }
     {
-        let tree = self.tree.lock(rt);
-        // the lock doesn't tell that its tree still has the parameters that it came with
-        if *tree.params() == self.p {
-            read_path(&tree, leaf, out);
-        } else {
-            out.fill(0);
-        }
+        self.tree.lock(rt).read_path(leaf, out);
     }
 
     /// Applies each bucket of the image at the node in its header, with this version.
     pub fn store_all<R: Wait>(&self, rt: &R, version: u32, image: &[u8])
         requires { IsTreeImage self.now image.now }
     {
-        let mut tree = self.tree.lock(rt);
-        if *tree.params() == self.p {
-            apply_all(&mut tree, version, image);
-        }
+        self.tree.lock(rt).apply_all(version, image);
     }
 
-    /// The tree, once no link leads to it any more.
-    pub fn into_tree(self) -> Tree {
-        self.tree.into_inner()
+    /// The tree, once no link leads to it any more. It has kept its parameters.
+    pub fn into_tree(self) -> Tree
+        ensures { result.shape ≡ self }
+    {
+        self.tree.into_inner().into_tree()
     }
 }

@@ -1,14 +1,13 @@
 //! A link over a stream to a node.
 ghost use Rattle.std.specs.Prelude.{◌≡◌, ◌+◌, ◌*◌, ◌^◌, ◌<◌, ◌∷◌, [], length, None, IfOk, OnOk, OnErr};
-ghost use Rattle.std.specs.Io.KnownBytes.{Consumes};
 ghost use Rattle.tao_base.specs.Causes.{HasCause};
 ghost use Rattle.tao_base.specs.Limits.{bucket_len};
 ghost use Rattle.tao_base.specs.Links.{TellsMore, IsSendable, asked_of};
 ghost use Rattle.tao_base.specs.Transfers.{PutsAll, PutsPart};
 ghost use Rattle.tao_base.specs.declared.links.Asked.TheVariants.{Fetch as FetchAsked};
 ghost use Rattle.tao_wire.specs.Frames.{frame};
-ghost use Rattle.tao_wire.specs.declared.message.Message.TheVariants.{Fetch, Path, Store, Stored};
-ghost use Rattle.tao_tree.specs.Streams.{stream_reach, halves, fetching, storing, Fails};
+ghost use Rattle.tao_wire.specs.declared.message.Message.TheVariants.{Path, Store, Stored};
+ghost use Rattle.tao_tree.specs.Streams.{stream_reach, halves, fetching, storing, IsAnswered, Fails};
 
 use crate::answers::{receive_path, receive_stored};
 use std::alloc::Global;
@@ -87,9 +86,7 @@ impl<S: Source, K: Sink> Link for StreamLink<S, K> {
         ensures path_kept { OnErr result (path.new ≡ path.old) }
         ensures cause { HasCause (S.faults self.old.source + K.faults self.old.sink + self.old.wrong) (S.faults self.new.source + K.faults self.new.sink + self.new.wrong) result }
         ensures shape { self.new.shape ≡ self.old.shape }
-        ensures sent { OnOk result (PutsAll K.put K.faults self.old.sink self.new.sink (frame (Fetch id leaf))) }
-        ensures answer { OnOk result (Consumes (S.left self.old.source) (S.left self.new.source) (frame (Path id path.new))) }
-        ensures kept { OnOk result (self.new.wrong ≡ self.old.wrong) }
+        ensures ok { OnOk result (IsAnswered (halves S.left S.faults K.put K.faults) (fetching id leaf (length path.old)) self.old self.new (Path id path.new)) }
         ensures err { OnErr result (Fails (halves S.left S.faults K.put K.faults) (fetching id leaf (length path.old)) self.old self.new) }
     {
         write_all(&mut self.sink, &fetch_frame(id, leaf))?;
@@ -107,9 +104,7 @@ impl<S: Source, K: Sink> Link for StreamLink<S, K> {
         ensures told { TellsMore None None (asked_of order.now) result [] (order.now.version ∷ []) }
         ensures cause { HasCause (S.faults self.old.source + K.faults self.old.sink + self.old.wrong) (S.faults self.new.source + K.faults self.new.sink + self.new.wrong) result }
         ensures shape { self.new.shape ≡ self.old.shape }
-        ensures sent { OnOk result (PutsAll K.put K.faults self.old.sink self.new.sink (frame (Store order.now.version order.now.image))) }
-        ensures answer { OnOk result (Consumes (S.left self.old.source) (S.left self.new.source) (frame (Stored order.now.version))) }
-        ensures kept { OnOk result (self.new.wrong ≡ self.old.wrong) }
+        ensures ok { OnOk result (IsAnswered (halves S.left S.faults K.put K.faults) (storing order.now.version order.now.image) self.old self.new (Stored order.now.version)) }
         ensures err { OnErr result (Fails (halves S.left S.faults K.put K.faults) (storing order.now.version order.now.image) self.old self.new) }
     {
         // tells the limits of the parameters

@@ -6,6 +6,7 @@ ghost use Rattle.tao_base.specs.Links.{TellsMore, IsSendable, asked_of};
 ghost use Rattle.tao_base.specs.declared.links.Asked.TheVariants.{Fetch};
 ghost use Rattle.tao_tree.specs.Nodes.{IsSomePath, reach_of};
 
+use crate::planted::Shaped;
 use crate::shared::SharedTree;
 use std::marker::Model;
 use std::sync::Wait;
@@ -13,11 +14,11 @@ use tao_base::{Failed, Link, Order};
 
 /// A link straight to a tree. It never fails, and logs nothing.
 #[derive(Drop)]
-pub struct TreeLink<'t> {
-    tree: &'t SharedTree,
+pub struct TreeLink<'t, J: Shaped> {
+    tree: &'t SharedTree<J>,
 }
 
-impl<'t> Model for TreeLink<'t> {
+impl<'t, J: Shaped> Model for TreeLink<'t, J> {
     ghost use Rattle.tao_base.specs.Limits.{Shape};
 
     ghost Value = { Shape };
@@ -25,16 +26,16 @@ impl<'t> Model for TreeLink<'t> {
     ghost view = { λ l. l.tree.now };
 }
 
-impl<'t> TreeLink<'t> {
+impl<'t, J: Shaped> TreeLink<'t, J> {
     /// A link to this tree.
-    pub fn new(tree: &'t SharedTree) -> TreeLink<'t>
+    pub fn new(tree: &'t SharedTree<J>) -> TreeLink<'t, J>
         ensures { result ≡ tree.now }
     {
         TreeLink { tree }
     }
 }
 
-impl<'t> Link for TreeLink<'t> {
+impl<'t, J: Shaped> Link for TreeLink<'t, J> {
     ghost faults = { λ _. 0 };
 
     ghost reach = { λ s. reach_of s };

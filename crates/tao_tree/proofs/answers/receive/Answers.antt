@@ -4,7 +4,7 @@ use Rattle.std.specs.Io.KnownBytes.{Consumes}
 use Rattle.std.proofs.lemmas.List.{take_all}
 use Rattle.tao_base.proofs.TransferLemmas.{same_true}
 use Rattle.tao_tree.proofs.TransferLemmas.{received, fewer_behind}
-use Rattle.tao_tree.proofs.FailedCalls.{on_err}
+use Rattle.tao_tree.proofs.StreamCalls.{on_err}
 use Rattle.tao_tree.proofs.answers.receive.Goals as goal
 
 pub returns-clause-came : goal.returns-clause-came

@@ -1,8 +1,12 @@
-use Rattle.std.proofs.Common.{◌≡◌, ◌+◌, length, refl, ap, subst, arith}
+use Rattle.std.proofs.Common.{◌≡◌, ◌+◌, length, drop, refl, ap, subst, arith}
+use Rattle.std.proofs.lemmas.Grind.{common_steps}
+use Rattle.std.specs.Io.KnownBytes.{Consumes}
 use Rattle.tao_base.specs.Transfers.{ConsumesFewer}
+use Rattle.tao_wire.specs.Frames.{frame}
+use Rattle.tao_wire.specs.declared.message.Message.TheVariants.{Path}
 use Rattle.tao_tree.specs.Streams.{StreamState, path_len, halves, fetching}
-use Rattle.tao_tree.proofs.AnswerLemmas.{when_false, wrong_path}
-use Rattle.tao_tree.proofs.FailedCalls.{on_err, sent_whole, send_failed, receive_failed, answered_wrong}
+use Rattle.tao_tree.proofs.AnswerLemmas.{when_false, when_true, wrong_path}
+use Rattle.tao_tree.proofs.StreamCalls.{on_err, answered, send_failed, receive_failed, answered_wrong}
 use Rattle.tao_tree.proofs.stream_link.StreamLinkLink.fetch.Goals as goal
 
 pub returns-in_err-write_all-clause-err : goal.returns-in_err-write_all-clause-err
@@ -29,7 +33,11 @@ returns-then-not-branch-clause-err g c =
     (wrong_path _ _ c.args.id _ _ long came)
     c.in_ok-receive_path.ensures.cause.kept c.saturating_add-self-inside.ensures
 
-pub returns-clause-sent : goal.returns-clause-sent
-returns-clause-sent g c =
-    sent_whole (halves g.S.Source.left g.S.Source.faults g.K.Sink.put g.K.Sink.faults) (fetching c.args.id c.args.leaf (length c.args.path.now)) _ _ (record { shape = c.self.inside.p; source = c.receive_path.new.source; sink = c.write_all.new.sink; wrong = c.self.inside.wrong }) _
-    c.self.view_is c.fetch_frame.ensures c.in_ok-write_all.ensures.ok
+pub returns-clause-ok : goal.returns-clause-ok
+returns-clause-ok g c =
+    let came = when_true _ _ _ c.if-not-branch.false c.in_ok-receive_path.ensures.came in
+    let path : drop 9 c.receive_path.new.content ≡ c.copy_from_slice.new.self = grind (arith, common_steps, c.copy_from_slice.ensures.after, c.deref.ensures.value, c.receive_path.auto.content, c.deref_mut.ensures.len) in
+    answered (halves g.S.Source.left g.S.Source.faults g.K.Sink.put g.K.Sink.faults) (fetching c.args.id c.args.leaf (length c.args.path.now)) _ _ (record { shape = c.self.inside.p; source = c.receive_path.new.source; sink = c.write_all.new.sink; wrong = c.self.inside.wrong }) _
+    c.self.view_is c.fetch_frame.ensures _ c.in_ok-write_all.ensures.ok
+    (subst (λ bytes. Consumes (g.S.Source.left c.self.inside.source) (g.S.Source.left c.receive_path.new.source) (frame (Path c.args.id bytes))) path came)
+    refl

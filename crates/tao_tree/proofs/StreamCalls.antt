@@ -1,17 +1,25 @@
--- Why a call over a stream failed.
+-- What came of a call over a stream.
 use Rattle.std.proofs.Common.{◌≡◌, inl, inr, ℕ, ◌+◌, List, Result, Ok, Err, subst}
 use Rattle.std.specs.Prelude.{OnErr}
 use Rattle.tao_base.specs.Causes.{Rose, one_more}
 use Rattle.tao_base.specs.Transfers.{PutsAll, PutsPart, ConsumesFewer}
-use Rattle.tao_tree.specs.Streams.{StreamState, Halves, Exchange, ConsumesWrong, Fails}
+use Rattle.std.specs.Io.KnownBytes.{Consumes}
+use Rattle.tao_wire.specs.Frames.{frame}
+use Rattle.tao_wire.specs.declared.message.Message.{Message}
+use Rattle.tao_tree.specs.Streams.{StreamState, Halves, Exchange, ConsumesWrong, IsAnswered, Fails}
 
 pub on_err : {T E : Type 0} (r : Result T E) (P : Type 0) → P → OnErr r P
 on_err (Ok x) P p = tt
 on_err (Err e) P p = p
 
 module _ {S K : Type 0} (h : Halves S K) (e : Exchange) (old inside new : StreamState S K) (bytes : List ℕ) (view : inside ≡ old) (frame_is : bytes ≡ e.sent) where
-  pub sent_whole : PutsAll h.put h.sink_faults inside.sink new.sink bytes → PutsAll h.put h.sink_faults old.sink new.sink e.sent
-  sent_whole sent = subst (λ (o : StreamState S K). PutsAll h.put h.sink_faults o.sink new.sink e.sent) view (subst (PutsAll h.put h.sink_faults inside.sink new.sink) frame_is sent)
+  pub answered : (answer : Message) → PutsAll h.put h.sink_faults inside.sink new.sink bytes → Consumes (h.left inside.source) (h.left new.source) (frame answer) → new.wrong ≡ inside.wrong
+      → IsAnswered h e old new answer
+  answered answer sent came uncounted = subst (λ o. IsAnswered h e o new answer) view (record {
+    sent = subst (PutsAll h.put h.sink_faults inside.sink new.sink) frame_is sent;
+    came = came;
+    uncounted = uncounted;
+  })
 
   pub send_failed : PutsPart h.put h.sink_faults inside.sink new.sink bytes → new.source ≡ inside.source → new.wrong ≡ inside.wrong → Fails h e old new
   send_failed part unread uncounted = subst (λ o. Fails h e o new) view (inl (record {
