@@ -1,3 +1,5 @@
+mod doors;
+
 use crate::{
     Block, Bucket, BucketFault, ByteSink, ByteSource, Entries, Entry, Form, Image, Numbers,
     ParamFault, Params, Sink, Source, append_within, are_same, fill, is_listed, on_path, path_node,
