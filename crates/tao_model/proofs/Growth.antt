@@ -4,10 +4,11 @@ use Rattle.std.proofs.lemmas.Bool.{ne_eqb, eq-eqb, cases_lt, cases_eq, true≢fa
 use Rattle.std.proofs.lemmas.List.{reverse-append}
 use Rattle.tao_base.specs.declared.session.Event.{Event}
 use Rattle.tao_base.specs.declared.session.Event.TheVariants.{Arrive, Done, Issue, Acked, Fault}
+use Rattle.tao_base.specs.Session.{Opening}
 use Rattle.tao_model.specs.Events.{arrived, client_of, is_done}
 use Rattle.tao_model.specs.Requests.{is_real, settler, word_used}
 use Rattle.tao_model.specs.Replies.{leading, released, plain_reply}
-use Rattle.tao_model.specs.Stays.{ArrivalsStay, ReleasedGrows}
+use Rattle.tao_model.specs.Stays.{ArrivalsStay, ReleasedGrows, UsedStays}
 use Rattle.tao_model.proofs.Stays.{client_stays, real_stays, used_stays, reply_stays, settler_stays}
 use Rattle.tao_model.proofs.Places.{stays_later, leaf_stays_later, arrived_grows}
 
@@ -77,13 +78,22 @@ pub released_grows_later : (later es : List Event) → released es ≤ released 
 released_grows_later later es = leading_grows (is_done es) (is_done (later ++ es)) (arrived es) (arrived (later ++ es)) (released es) (released (later ++ es))
     (leading_is (is_done es) (arrived es)) (leading_is (is_done (later ++ es)) (arrived (later ++ es))) (arrived_grows later es) (λ i h. done_stays later es i h)
 
+pub used_stays_later : (o : Opening) (later es : List Event) (i : ℕ) → i < arrived es → word_used o (later ++ es) i ≡ word_used o es i
+used_stays_later o later es i h = stays_later (λ l. word_used o l i) (i + 1) (λ l e k. used_stays o l e i (omega arith)) later es (omega arith)
+
+pub words_stay : UsedStays
+words_stay o events later i h = ap (λ l. word_used o l i) (reverse-append events later) ∙ used_stays_later o (reverse later) (reverse events) i h
+
+pub reply_stays_later : (o : Opening) (later es : List Event) (i : ℕ) → i < arrived es → plain_reply o (later ++ es) i ≡ plain_reply o es i
+reply_stays_later o later es i h = stays_later (λ l. plain_reply o l i) (i + 1) (λ l e k. reply_stays o l e i (omega arith)) later es (omega arith)
+
 pub arrivals_stay : ArrivalsStay
 arrivals_stay o events later i f h = rw (reverse-append events later) (record {
   client = stays_later (λ l. client_of l i) (i + 1) (λ l e k. client_stays l e i (omega arith)) (reverse later) (reverse events) (omega arith);
   real = stays_later (λ l. is_real l i) (i + 1) (λ l e k. real_stays l e i (omega arith)) (reverse later) (reverse events) (omega arith);
-  word = stays_later (λ l. word_used o l i) (i + 1) (λ l e k. used_stays o l e i (omega arith)) (reverse later) (reverse events) (omega arith);
+  word = used_stays_later o (reverse later) (reverse events) i h;
   leaf = leaf_stays_later o (reverse later) (reverse events) i f h;
-  reply = stays_later (λ l. plain_reply o l i) (i + 1) (λ l e k. reply_stays o l e i (omega arith)) (reverse later) (reverse events) (omega arith);
+  reply = reply_stays_later o (reverse later) (reverse events) i h;
   settler = stays_later (λ l. settler l i) (i + 1) (λ l e k. settler_stays l e i (omega arith)) (reverse later) (reverse events) (omega arith);
 })
 

@@ -1,7 +1,7 @@
 -- The last real arrival on a block: what settles an arrival, and which word a real one uses. The events `es` are newest first.
-use Rattle.std.proofs.Common.{◌≡◌, ℕ, ◌+◌, ◌<◌, ◌≤◌, Bool, true, false, ◌&&◌, cond, List, [], ◌∷◌, reverse, Option, Some, None, slice_index, refl, sym, ap, ◌∙◌, subst, arith, inl, inr, ◌⊎◌}
+use Rattle.std.proofs.Common.{◌≡◌, ℕ, ◌+◌, ◌<◌, ◌≤◌, Bool, true, false, ◌&&◌, ◌||◌, cond, List, [], ◌∷◌, reverse, Option, Some, None, slice_index, refl, sym, ap, ◌∙◌, subst, arith, inl, inr, ◌⊎◌}
 use Rattle.std.specs.Option.{option_map_or}
-use Rattle.std.proofs.lemmas.Bool.{eq-eqb, cases_lt, eqb-true, and_from, lt-ltb, true≢false}
+use Rattle.std.proofs.lemmas.Bool.{eq-eqb, cases_lt, cases_order, eqb-true, and_from, and_parts, false_from_ne_true, lt-ltb, true≢false}
 use Rattle.std.proofs.lemmas.Option.{none-some, same_Some}
 use Rattle.tao_base.specs.declared.calls.Op.{Op}
 use Rattle.tao_base.specs.declared.calls.Op.TheVariants.{Read, Write, Pad}
@@ -10,12 +10,15 @@ use Rattle.tao_base.specs.declared.session.Event.TheVariants.{Arrive, Done, Issu
 use Rattle.tao_base.specs.Session.{Opening}
 use Rattle.tao_base.specs.Tree.{leaf_of}
 use Rattle.tao_model.specs.Greatest.{IsLast}
-use Rattle.tao_model.specs.Events.{arrived, is_done, is_on, names, word_of, word_at}
-use Rattle.tao_model.specs.Requests.{is_real, real_now, last_real, settler, settler_for, next_word, word_for, word_used, leaf_at}
+use Rattle.tao_model.specs.Events.{arrived, is_done, is_on, is_pad_op, names, word_of, word_at}
+use Rattle.tao_model.specs.Requests.{is_real, real_now, last_real, settler, settler_for, is_settled, next_word, word_for, word_used, leaf_at}
 use Rattle.tao_model.specs.LookBacks.{is_real_on, SettlerIsLast, RealFetchesLast, FakeFetchesOwn}
-use Rattle.tao_model.proofs.Stays.{on_stays, real_stays, used_stays, settler_stays}
+use Rattle.tao_model.specs.Lawful.{FollowsLawfully}
+use Rattle.tao_model.specs.OneMore.{PadsAreSettled}
+use Rattle.tao_model.proofs.Places.{done_arrived}
+use Rattle.tao_model.proofs.Stays.{newest_first, on_stays, real_stays, used_stays, settler_stays}
 use Rattle.tao_model.proofs.OneMoreEvent.{done_word, word_for_block, word_for_fake}
-use Rattle.tao_model.proofs.RealArrivals.{last_same, real_newest, on_newest, free_means}
+use Rattle.tao_model.proofs.RealArrivals.{last_same, real_newest, on_newest, free_means, earlier_done}
 
 real_on_stays : (es : List Event) (e : Event) (block i : ℕ) → i < arrived es → is_real_on (e ∷ es) block i ≡ is_real_on es block i
 real_on_stays es e block i h = rw (real_stays es e i h, on_stays es e i block h) refl
@@ -154,6 +157,43 @@ settles_from (Fault cause ∷ es) i block h on = settles_from es i block h on
 
 pub settler_is_last : SettlerIsLast
 settler_is_last events i block h on = settles_from (reverse events) i block h on
+
+-- ---- a new arrival
+
+-- the last real arrival on a block on which a new one would be fake isn't done
+last_open : (es : List Event) (op : Op) (block : ℕ) → real_now es op ≡ false → names block op ≡ true → is_done es (last_real es block) ≡ false
+last_open es op block fake named = either (last_on es block) refl (last_so_far es block)
+  where
+    open_one : (last : ℕ) → IsLast (is_real_on es block) (arrived es) (Some last) → is_done es last ≡ true → real_now es op ≡ true
+    open_one last is done = (free_means (is_on es) (is_real es) (is_done es) (arrived es) block op named).1 (λ i below on real. which i below on real (cases_order i last))
+      where
+        parts : (is_real es last ≡ true) × (is_on es last block ≡ true)
+        parts = and_parts (is_real es last) (is_on es last block) is.1
+
+        which : (i : ℕ) → i < arrived es → is_on es i block ≡ true → is_real es i ≡ true → (i ≡ last) ⊎ ((i < last) ⊎ (last < i)) → is_done es i ≡ true
+        which i below on real (inl same) = ap (is_done es) same ∙ done
+        which i below on real (inr (inl less)) = earlier_done es last i block is.0 parts.1 parts.0 less on real
+        which i below on real (inr (inr more)) = absurd (true≢false (sym (and_from (is_real es i) (is_on es i block) real on) ∙ is.2 i more below))
+
+    either : (last : Option ℕ) → last_on es block ≡ last → IsLast (is_real_on es block) (arrived es) last → is_done es (last_real es block) ≡ false
+    either None at none = absurd (true≢false (sym (first_is_real es op block named none) ∙ fake))
+    either (Some last) at is = ap (is_done es) (last_real_is es block last at)
+        ∙ false_from_ne_true (is_done es last) (λ done. true≢false (sym (open_one last is done) ∙ fake))
+
+pub settled_newest : (o : Opening) (es : List Event) (client : ℕ) (op : Op) (word : ℕ) → FollowsLawfully o es → is_settled (Arrive client op word ∷ es) (arrived es) ≡ is_pad_op op
+settled_newest o es client op word f = rw (eq-eqb (arrived es) (arrived es) refl) (by op)
+  where
+    one : (op : Op) (block : ℕ) (t : Bool) → real_now es op ≡ t → names block op ≡ true → is_done es (settler_for (last_real es) (arrived es) t op) ≡ false
+    one op block true is named = ap (is_done es) (settler_real (last_real es) (arrived es) op) ∙ done_arrived o es (arrived es) f (omega arith)
+    one op block false is named = ap (is_done es) (settler_block (last_real es) (arrived es) block op named) ∙ last_open es op block is named
+
+    by : (op : Op) → (is_pad_op op || is_done es (settler_for (last_real es) (arrived es) (real_now es op) op)) ≡ is_pad_op op
+    by (Read id) = one (Read id) id (real_now es (Read id)) refl (eq-eqb id id refl)
+    by (Write id value) = one (Write id value) id (real_now es (Write id value)) refl (eq-eqb id id refl)
+    by Pad = refl
+
+pub pads_are_settled : PadsAreSettled
+pads_are_settled o events client op word = rw (newest_first events (Arrive client op word)) (λ f. settled_newest o (reverse events) client op word f.0)
 
 -- ---- which word an arrival uses
 

@@ -2,6 +2,7 @@
 use Rattle.std.proofs.Common.{◌≡◌, ℕ, ◌+◌, ◌-◌, ◌*◌, ◌<◌, ◌≤◌, Bool, true, false, ◌||◌, List, [], ◌∷◌, ◌++◌, reverse, length, take, drop, Some, refl, sym, ap, ◌∙◌, subst, arith, inl, inr, ◌⊎◌, nat_eq, mul-le-mul_right}
 use Rattle.std.proofs.lemmas.Bool.{cases_lt, cases_eq, cases_order, true≢false, or_cases, eqb-true, eq-eqb}
 use Rattle.std.proofs.lemmas.Option.{slice_get_within}
+use Rattle.std.proofs.lemmas.List.{reverse-append}
 use Rattle.tao_base.specs.declared.session.Cause.{Cause}
 use Rattle.tao_base.specs.declared.session.Event.{Event}
 use Rattle.tao_base.specs.declared.session.Event.TheVariants.{Arrive, Done, Issue, Acked, Fault}
@@ -10,6 +11,7 @@ use Rattle.tao_base.specs.Limits.{session_limit}
 use Rattle.tao_base.specs.Session.{Opening}
 use Rattle.tao_model.specs.Events.{arrived, dones, issues, is_done, is_acked, has_fault}
 use Rattle.tao_model.specs.Lawful.{IsOpening, FollowsLawfully, OwesNone, touched_after}
+use Rattle.tao_model.specs.Stays.{PrefixFollows}
 use Rattle.tao_model.specs.WholeRecords.{IsAt, before, ArrivalsAreLawful, DonesAreLawful, IssuesAreLawful, IsWriteBack, AcksAreLawful, FaultsAreLawful, IsLawfulWhole}
 use Rattle.tao_model.proofs.DonesInOrder.{touched_are_nodes}
 use Rattle.tao_model.proofs.EventPlaces.{before_more, before_all, at_split, some_at, newest_at, found_before, passes_before}
@@ -21,6 +23,9 @@ follows_opening o (e ∷ es) f = follows_opening o es f.0
 pub earlier_follows : (o : Opening) (later es : List Event) → FollowsLawfully o (later ++ es) → FollowsLawfully o es
 earlier_follows o [] es f = f
 earlier_follows o (e ∷ later) es f = earlier_follows o later es f.0
+
+pub prefix_follows : PrefixFollows
+prefix_follows o events later f = earlier_follows o (reverse later) (reverse events) (subst (FollowsLawfully o) (reverse-append events later) f)
 
 -- each event may follow those before it
 pub follows_at : (o : Opening) (events : List Event) (p : ℕ) (e : Event) → FollowsLawfully o (reverse events) → IsAt events p e → FollowsLawfully o (e ∷ before events p)

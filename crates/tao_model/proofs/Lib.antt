@@ -1,9 +1,11 @@
 pub mod AlteredAnswers
 pub mod CausesOfFaults
 pub mod DonesInOrder
+pub mod EndingFaults
 pub mod EventPlaces
 pub mod FallingPaths
 pub mod FirstCopies
+pub mod GivenReplies
 pub mod GreatestNumbers
 pub mod Growth
 pub mod LastReal
@@ -26,3 +28,4 @@ pub mod RisingEntries
 pub mod Stays
 pub mod WholeToLawful
 pub mod WorkedRecords
+pub mod WrittenVersions

@@ -1,11 +1,13 @@
 -- What a record has come to: counts of events, and what is known of one arrival.
 -- Look-back functions take the events newest first. A record is oldest first: give them `reverse`.
-use Rattle.std.specs.Prelude.{ℕ, ◌+◌, ◌-◌, ◌<◌, ◌==◌, nat_lt, Bool, true, false, ◌||◌, if◌then◌else◌, List, [], ◌∷◌, length, slice_index, ⊤}
+use Rattle.std.specs.Prelude.{ℕ, ◌+◌, ◌-◌, ◌<◌, ◌==◌, nat_lt, nat_le, Bool, true, false, not, ◌&&◌, ◌||◌, if◌then◌else◌, List, [], ◌∷◌, Option, Some, None, length, slice_index, ⊤}
+use Rattle.std.specs.List.{list_any}
 use Rattle.tao_base.specs.declared.calls.Op.{Op}
 use Rattle.tao_base.specs.declared.calls.Op.TheVariants.{Read, Write, Pad}
+use Rattle.tao_base.specs.declared.session.Cause.{Cause}
 use Rattle.tao_base.specs.declared.session.Event.{Event}
 use Rattle.tao_base.specs.declared.session.Event.TheVariants.{Arrive, Done, Issue, Acked, Fault}
-use Rattle.tao_base.specs.Session.{Opening}
+use Rattle.tao_base.specs.Session.{Opening, is_fault}
 
 -- the number of arrivals, which is the number of the next one
 abbrev pub arrived : List Event → ℕ
@@ -52,14 +54,18 @@ acks (Issue version nonce buckets ∷ es) = acks es
 acks (Acked version ∷ es) = acks es + 1
 acks (Fault cause ∷ es) = acks es
 
--- whether there is a Fault
+-- whether there is a Fault, in either order of the events
 abbrev pub has_fault : List Event → Bool
-has_fault [] = false
-has_fault (Arrive client op word ∷ es) = has_fault es
-has_fault (Done arrival taken ∷ es) = has_fault es
-has_fault (Issue version nonce buckets ∷ es) = has_fault es
-has_fault (Acked version ∷ es) = has_fault es
-has_fault (Fault cause ∷ es) = true
+has_fault es = list_any is_fault es
+
+-- the cause of the newest Fault, if there is one
+abbrev pub cause_in : List Event → Option Cause
+cause_in [] = None
+cause_in (Arrive client op word ∷ es) = cause_in es
+cause_in (Done arrival taken ∷ es) = cause_in es
+cause_in (Issue version nonce buckets ∷ es) = cause_in es
+cause_in (Acked version ∷ es) = cause_in es
+cause_in (Fault cause ∷ es) = Some cause
 
 -- whether this arrival's fetched path was admitted
 abbrev pub is_done : List Event → ℕ → Bool
@@ -78,6 +84,14 @@ is_acked (Done arrival taken ∷ es) v = is_acked es v
 is_acked (Issue version nonce buckets ∷ es) v = is_acked es v
 is_acked (Acked version ∷ es) v = (version == v) || is_acked es v
 is_acked (Fault cause ∷ es) v = is_acked es v
+
+-- whether this arrival's fetch is under way: it was requested and isn't done
+abbrev pub is_under_way : List Event → ℕ → Bool
+is_under_way es i = nat_lt i (arrived es) && not (is_done es i)
+
+-- whether the write-back of this version is outstanding: it was issued and isn't acknowledged
+abbrev pub is_outstanding : List Event → ℕ → Bool
+is_outstanding es v = nat_lt 0 v && (nat_le v (issues es) && not (is_acked es v))
 
 -- whether an operation is on a block; a pad is on none
 abbrev pub names : ℕ → Op → Bool

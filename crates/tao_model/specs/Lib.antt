@@ -1,6 +1,7 @@
 pub mod Copies
 pub mod Events
 pub mod Evictions
+pub mod Faults
 pub mod FreshCopy
 pub mod Greatest
 pub mod Lawful

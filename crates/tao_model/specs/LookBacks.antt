@@ -13,8 +13,9 @@ use Rattle.tao_model.specs.Greatest.{IsGreatest, IsLast}
 use Rattle.tao_model.specs.Events.{arrived, dones, issues, is_done, is_on, names, word_of}
 use Rattle.tao_model.specs.Requests.{is_real, settler, fetched_leaf, fetches, position}
 use Rattle.tao_model.specs.Replies.{ops, array_now, plain_reply, released}
-use Rattle.tao_model.specs.Residence.{last_touch, bucket_of, newest_write, newest_version}
+use Rattle.tao_model.specs.Residence.{last_touch, bucket_of, is_issued, newest_write, newest_version}
 use Rattle.tao_model.specs.Lawful.{FollowsLawfully, touched_after}
+use Rattle.tao_model.specs.OneMore.{with_one_more}
 
 -- ---- Dones
 
@@ -70,6 +71,20 @@ pub record IsNewest (o : Opening) (events : List Event) (node : ℕ) : Type 0 wh
 -- this holds for every node of a record that follows lawfully
 abbrev pub NewestIsGreatest : Type 0
 NewestIsGreatest = (o : Opening) (events : List Event) (node : ℕ) → FollowsLawfully o (reverse events) → IsNewest o events node
+
+-- What was written at a node under a version doesn't change.
+abbrev pub WrittenStays : Type 0
+WrittenStays = (o : Opening) (events later : List Event) (v node : ℕ) → v ≤ issues (reverse events) → written_at o (events ++ later) v node ≡ written_at o events v node
+
+-- A write-back writes its buckets under its version.
+abbrev pub IssueIsWritten : Type 0
+IssueIsWritten = (o : Opening) (events : List Event) (v nonce : ℕ) (buckets : List Bucket) (node : ℕ) → FollowsLawfully o (with_one_more events (Issue v nonce buckets))
+    → written_at o (events ++ Issue v nonce buckets ∷ []) v node ≡ bucket_of node buckets
+
+-- A version from 1 on has exactly the nodes that were written under it.
+abbrev pub IssuedIsWritten : Type 0
+IssuedIsWritten = (o : Opening) (events : List Event) (v node : ℕ) → FollowsLawfully o (reverse events) → 0 < v → v ≤ issues (reverse events)
+    → is_issued (reverse events) v node ≡ is_some (written_at o events v node)
 
 -- ---- arrivals
 

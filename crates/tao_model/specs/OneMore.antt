@@ -1,5 +1,5 @@
 -- One more event: how each look-back function changes. The events before it, `es`, are newest first.
-use Rattle.std.specs.Prelude.{◌≡◌, ℕ, ◌+◌, ◌<◌, ◌≤◌, true, false, not, ◌&&◌, ◌||◌, if◌then◌else◌, List, [], ◌∷◌, ◌++◌, reverse}
+use Rattle.std.specs.Prelude.{◌≡◌, ℕ, ◌+◌, ◌<◌, ◌≤◌, ◌==◌, true, false, not, ◌&&◌, ◌||◌, if◌then◌else◌, List, [], ◌∷◌, ◌++◌, reverse, is_some}
 use Rattle.std.specs.Option.{option_or}
 use Rattle.tao_base.specs.declared.calls.Op.{Op}
 use Rattle.tao_base.specs.declared.calls.Op.TheVariants.{Pad}
@@ -10,10 +10,10 @@ use Rattle.tao_base.specs.declared.storage.Bucket.{Bucket}
 use Rattle.tao_base.specs.Session.{Opening}
 use Rattle.tao_base.specs.Tree.{leaf_of}
 use Rattle.tao_base.specs.Array.{array_step, array_reply}
-use Rattle.tao_model.specs.Events.{arrived, dones, is_on, names, word_of}
-use Rattle.tao_model.specs.Requests.{is_real, real_now, next_word, word_for, word_used, leaf_at, fetched_leaf, fetches, position}
+use Rattle.tao_model.specs.Events.{arrived, dones, issues, is_on, is_pad_op, names, word_of}
+use Rattle.tao_model.specs.Requests.{is_real, real_now, settler, is_settled, next_word, word_for, word_used, leaf_at, fetched_leaf, fetches, position}
 use Rattle.tao_model.specs.Replies.{array_now, plain_reply, released}
-use Rattle.tao_model.specs.Residence.{last_touch, is_resident, departs, newest_write, bucket_of}
+use Rattle.tao_model.specs.Residence.{last_touch, is_resident, departs, newest_write, newest_version, bucket_of}
 use Rattle.tao_model.specs.Lawful.{FollowsLawfully}
 
 -- the held nodes, the latest versions and the touches are unchanged
@@ -21,6 +21,11 @@ pub record SameNodes (o : Opening) (before now : List Event) : Type 0 where
   pub touch : (node : ℕ) → last_touch o now node ≡ last_touch o before node
   pub resident : (node : ℕ) → is_resident o now node ≡ is_resident o before node
   pub written : (node : ℕ) → newest_write o now node ≡ newest_write o before node
+  pub newest : (node : ℕ) → newest_version now node ≡ newest_version before node
+
+-- the same arrivals are settled
+abbrev pub SameSettled : List Event → List Event → Type 0
+SameSettled before now = (i : ℕ) → i < arrived before → is_settled now i ≡ is_settled before i
 
 -- the position map is unchanged
 abbrev pub SamePositions : Opening → List Event → List Event → Type 0
@@ -35,14 +40,18 @@ pub record AfterArrive (o : Opening) (es now : List Event) (op : Op) (word : ℕ
   pub reply : plain_reply o now (arrived es) ≡ array_reply (array_now o es) op
   pub array : array_now o now ≡ array_step (array_now o es) op
   pub released : released now ≡ released es
+  pub settled : SameSettled es now
   pub nodes : SameNodes o es now
   pub positions : SamePositions o es now
 
--- A Done touches the nodes of its path and brings them in. A real one gives its block the position of its own word.
+-- A Done touches the nodes of its path and brings them in, and settles those that waited for it.
+-- A real one gives its block the position of its own word.
 pub record AfterDone (o : Opening) (es now : List Event) (arrival : ℕ) : Type 0 where
   pub touch : (node : ℕ) → last_touch o now node ≡ (if fetches o es arrival node then dones es + 1 else last_touch o es node)
   pub resident : (node : ℕ) → is_resident o now node ≡ (is_resident o es node || fetches o es arrival node)
   pub written : (node : ℕ) → newest_write o now node ≡ newest_write o es node
+  pub newest : (node : ℕ) → newest_version now node ≡ newest_version es node
+  pub settled : (i : ℕ) → is_settled now i ≡ (is_settled es i || settler es i == arrival)
   pub moved : (block : ℕ) → is_real es arrival ≡ true → is_on es arrival block ≡ true → position o now block ≡ leaf_of o.shape.l (word_of es arrival)
   pub kept : (block : ℕ) → block < o.shape.n → (is_real es arrival && is_on es arrival block) ≡ false → position o now block ≡ position o es block
   pub released : released es ≤ released now
@@ -52,6 +61,8 @@ pub record AfterIssue (o : Opening) (es now : List Event) (buckets : List Bucket
   pub touch : (node : ℕ) → last_touch o now node ≡ last_touch o es node
   pub resident : (node : ℕ) → is_resident o now node ≡ is_resident o es node
   pub written : (node : ℕ) → newest_write o now node ≡ option_or (bucket_of node buckets) (newest_write o es node)
+  pub newest : (node : ℕ) → newest_version now node ≡ (if is_some (bucket_of node buckets) then issues es + 1 else newest_version es node)
+  pub settled : SameSettled es now
   pub positions : SamePositions o es now
   pub released : released now ≡ released es
 
@@ -60,12 +71,15 @@ pub record AfterAcked (o : Opening) (es now : List Event) (version : ℕ) : Type
   pub touch : (node : ℕ) → last_touch o now node ≡ last_touch o es node
   pub resident : (node : ℕ) → is_resident o now node ≡ (is_resident o es node && not (departs o es version node))
   pub written : (node : ℕ) → newest_write o now node ≡ newest_write o es node
+  pub newest : (node : ℕ) → newest_version now node ≡ newest_version es node
+  pub settled : SameSettled es now
   pub positions : SamePositions o es now
   pub released : released now ≡ released es
 
 -- A Fault leaves nodes, positions and the released count unchanged.
 pub record AfterFault (o : Opening) (es now : List Event) : Type 0 where
   pub nodes : SameNodes o es now
+  pub settled : SameSettled es now
   pub positions : SamePositions o es now
   pub released : released now ≡ released es
 
@@ -101,3 +115,8 @@ OneMoreFault = (o : Opening) (events : List Event) (cause : Cause) → FollowsLa
 -- a pad is on no block and never real
 abbrev pub PadsAreFake : Type 0
 PadsAreFake = (events : List Event) (client word : ℕ) → is_real (with_one_more events (Arrive client Pad word)) (arrived (reverse events)) ≡ false
+
+-- a new arrival is settled at once exactly if it is a pad
+abbrev pub PadsAreSettled : Type 0
+PadsAreSettled = (o : Opening) (events : List Event) (client : ℕ) (op : Op) (word : ℕ) → FollowsLawfully o (with_one_more events (Arrive client op word))
+    → is_settled (with_one_more events (Arrive client op word)) (arrived (reverse events)) ≡ is_pad_op op

@@ -24,3 +24,11 @@ ArrivalsStay = (o : Opening) (events later : List Event) (i : ℕ) → FollowsLa
 -- the released count never falls
 abbrev pub ReleasedGrows : Type 0
 ReleasedGrows = (events later : List Event) → released (reverse events) ≤ released (reverse (events ++ later))
+
+-- The place of the tape word that an arrival uses never changes, whatever the record is.
+abbrev pub UsedStays : Type 0
+UsedStays = (o : Opening) (events later : List Event) (i : ℕ) → i < arrived (reverse events) → word_used o (reverse (events ++ later)) i ≡ word_used o (reverse events) i
+
+-- A prefix of a record that follows lawfully does too.
+abbrev pub PrefixFollows : Type 0
+PrefixFollows = (o : Opening) (events later : List Event) → FollowsLawfully o (reverse (events ++ later)) → FollowsLawfully o (reverse events)

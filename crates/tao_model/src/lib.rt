@@ -4,12 +4,14 @@
 
 mod copies;
 mod evictions;
+mod faults;
 mod look_backs;
 mod one_more;
 mod openings;
 mod placement;
 mod stability;
 mod trace;
+mod transcripts;
 mod whole_records;
 mod worked;
 mod worked_answers;
@@ -27,21 +29,24 @@ pub use evictions::{
     first_copy_stays, load_gathers, load_is_placed, load_spot, one_eviction, one_load, path_falls,
     spot_is_first,
 };
+pub use faults::{cause_is_fault, cause_is_last, faults_agree};
 pub use look_backs::{
-    array_is_fold, fake_fetches_own, last_touch_is_last, newest_is_greatest, ops_arrived,
-    position_is_last, real_fetches_last, real_means, released_is_greatest, reply_is_plain,
-    settler_is_last, touched_are_nodes,
+    array_is_fold, fake_fetches_own, issue_is_written, issued_is_written, last_touch_is_last,
+    newest_is_greatest, ops_arrived, position_is_last, real_fetches_last, real_means,
+    released_is_greatest, reply_is_plain, settler_is_last, touched_are_nodes, written_stays,
 };
 pub use one_more::{
     one_more_acked, one_more_arrive, one_more_done, one_more_fault, one_more_issue, pads_are_fake,
+    pads_are_settled,
 };
 pub use openings::{one_opening, opens_so};
 pub use placement::{
     fill_places, hands_more, hands_out, one_placement, pass_more, pass_places, placed_alike,
     spot_alike, takes_lowest,
 };
-pub use stability::{arrivals_stay, released_grows};
+pub use stability::{arrivals_stay, prefix_follows, released_grows, used_stays};
 pub use trace::Request;
+pub use transcripts::given_is_plain;
 pub use whole_records::lawful_means;
 pub use worked::{
     full_path, kept_under_a_fetch, no_write_back_before_the_period, one_read, overlapping_requests,

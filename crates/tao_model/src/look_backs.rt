@@ -1,5 +1,5 @@
 //! Laws: what the look-back functions mean for the whole record.
-ghost use Rattle.tao_model.specs.LookBacks.{LastTouchIsLast, TouchedAreNodes, NewestIsGreatest, RealMeans, SettlerIsLast, RealFetchesLast, FakeFetchesOwn, PositionIsLast, ReleasedIsGreatest, OpsArrived, ArrayIsFold, ReplyIsPlain};
+ghost use Rattle.tao_model.specs.LookBacks.{LastTouchIsLast, TouchedAreNodes, NewestIsGreatest, WrittenStays, IssueIsWritten, IssuedIsWritten, RealMeans, SettlerIsLast, RealFetchesLast, FakeFetchesOwn, PositionIsLast, ReleasedIsGreatest, OpsArrived, ArrayIsFold, ReplyIsPlain};
 
 /// The last touch of a node is the last Done whose path has it.
 pub fn last_touch_is_last()
@@ -14,6 +14,21 @@ pub fn touched_are_nodes()
 /// The latest version of a node is the greatest that has it.
 pub fn newest_is_greatest()
     ensures { NewestIsGreatest }
+{}
+
+/// What was written under a version stays as it was. So the order of that version can be made again at any time.
+pub fn written_stays()
+    ensures { WrittenStays }
+{}
+
+/// A write-back is written under its version.
+pub fn issue_is_written()
+    ensures { IssueIsWritten }
+{}
+
+/// A version has exactly the nodes that were written under it.
+pub fn issued_is_written()
+    ensures { IssuedIsWritten }
 {}
 
 /// An arrival on a block is real exactly if every earlier real one on it is done.

@@ -1,5 +1,5 @@
 //! Laws: how one more event changes each look-back function.
-ghost use Rattle.tao_model.specs.OneMore.{OneMoreArrive, OneMoreDone, OneMoreIssue, OneMoreAcked, OneMoreFault, PadsAreFake};
+ghost use Rattle.tao_model.specs.OneMore.{OneMoreArrive, OneMoreDone, OneMoreIssue, OneMoreAcked, OneMoreFault, PadsAreFake, PadsAreSettled};
 
 /// One more arrival.
 pub fn one_more_arrive()
@@ -29,4 +29,9 @@ pub fn one_more_fault()
 /// A pad is never real.
 pub fn pads_are_fake()
     ensures { PadsAreFake }
+{}
+
+/// A new arrival is settled at once exactly if it is a pad. So any other waits for a Done.
+pub fn pads_are_settled()
+    ensures { PadsAreSettled }
 {}

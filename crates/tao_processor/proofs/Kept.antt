@@ -1,21 +1,20 @@
 -- What one more event keeps of the invariant.
 use Rattle.std.proofs.Common.{◌≡◌, Bool, true, false, List, [], ◌∷◌, ◌++◌, reverse, refl, sym, ap, ◌∙◌, subst, ◌||◌}
-use Rattle.std.proofs.lemmas.List.{reverse-append, reverse-reverse}
-use Rattle.std.proofs.lemmas.List.Folds.{list_any-append}
+use Rattle.std.specs.List.{list_any}
 use Rattle.tao_base.specs.declared.session.Cause.{Cause}
 use Rattle.tao_base.specs.declared.session.Event.{Event}
 use Rattle.tao_base.specs.declared.session.Event.TheVariants.{Arrive, Done, Issue, Acked, Fault}
-use Rattle.tao_base.specs.Session.{Opening, History}
+use Rattle.tao_base.specs.Session.{Opening, History, is_fault}
 use Rattle.tao_base.specs.Limits.{Shape}
 use Rattle.tao_model.specs.Events.{has_fault, arrived, dones, issues, acks}
 use Rattle.tao_model.specs.Lawful.{FollowsLawfully, MayFollow}
 use Rattle.tao_model.specs.OneMore.{with_one_more}
+use Rattle.tao_model.proofs.EndingFaults.{faults_agree}
 use Rattle.tao_model.proofs.Stays.{newest_first}
 use Rattle.tao_held.specs.Held.{held, WritesHeld}
 use Rattle.tao_tables.specs.Tables.{TellsNodes}
 use Rattle.tao_holdings.specs.Holding.{HoldingsState, is_held, contents_in, count_in, touch_in, version_in}
 use Rattle.tao_tables.specs.Pools.{HasPools}
-use Rattle.tao_record.specs.State as rec
 use Rattle.tao_record.specs.State.{RecordState, added}
 use Rattle.tao_requests.proofs.Followed.{follows_further}
 use Rattle.tao_processor.specs.Groups.{Parts, IsProcessor, KeepsRecord, NodesAre, pools_of}
@@ -37,27 +36,9 @@ record_more p h e keeps running may writes = record {
   };
 }
 
--- the two definitions of a Fault among the events
-fault_in : (es : List Event) → rec.has_fault (reverse es) ≡ has_fault es
-fault_in [] = refl
-fault_in (e ∷ es) =
-    ap (λ (l : List Event). rec.has_fault l) (reverse-append (e ∷ []) es) ∙ list_any-append rec.is_fault (reverse es) (e ∷ [])
-    ∙ ap (λ t. t || rec.has_fault (e ∷ [])) (fault_in es) ∙ last e (has_fault es) refl
-  where
-    last : (e : Event) (t : Bool) → has_fault es ≡ t → (t || rec.has_fault (e ∷ [])) ≡ has_fault (e ∷ es)
-    last (Arrive client op word) true is = sym is
-    last (Arrive client op word) false is = sym is
-    last (Done arrival taken) true is = sym is
-    last (Done arrival taken) false is = sym is
-    last (Issue version nonce buckets) true is = sym is
-    last (Issue version nonce buckets) false is = sym is
-    last (Acked version) true is = sym is
-    last (Acked version) false is = sym is
-    last (Fault cause) true is = refl
-    last (Fault cause) false is = refl
-
-pub no_fault : (events : List Event) → has_fault (reverse events) ≡ false → rec.has_fault events ≡ false
-no_fault events none = ap rec.has_fault (sym (reverse-reverse events)) ∙ fault_in (reverse events) ∙ none
+-- the session isn't over, as the record's condition says it
+pub no_fault : (events : List Event) → has_fault (reverse events) ≡ false → list_any is_fault events ≡ false
+no_fault events none = faults_agree events ∙ none
 
 fault_core : {x : Parts} (cause : Cause) → IsProcessor x → has_fault (reverse x.session.history.events) ≡ false
     → MayFollow x.session.history.opening (reverse x.session.history.events) (Fault cause) → IsProcessor (record x { session = added x.session (Fault cause) })

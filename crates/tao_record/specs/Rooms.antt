@@ -1,11 +1,12 @@
 -- Preallocated rooms, and what is copied to them.
 use Rattle.std.specs.Prelude.{◌≡◌, ℕ, ◌+◌, ◌<◌, ◌≤◌, false, List, length, All}
-use Rattle.std.specs.List.{slice_index_or}
+use Rattle.std.specs.List.{slice_index_or, list_any}
 use Rattle.tao_base.specs.Limits.{Shape, IsShape}
+use Rattle.tao_base.specs.Session.{is_fault}
 use Rattle.tao_base.specs.declared.session.Event.{Event}
 use Rattle.tao_base.specs.declared.storage.Bucket.{Bucket}
 use Rattle.tao_base.specs.declared.storage.Entry.{Entry}
-use Rattle.tao_record.specs.State.{done_len, issue_len, has_fault}
+use Rattle.tao_record.specs.State.{done_len, issue_len}
 
 -- from a place on, each item of a list fits the room at its place
 abbrev pub FitFrom : {X : Type 0} → (X → X → Type 0) → ℕ → List X → List X → Type 0
@@ -41,4 +42,4 @@ pub record HasRoom (s : Shape) (events : List Event) (len capacity : ℕ) (done_
   pub for_dones : All (AreRooms s (done_len s)) done_rooms
   pub for_issues : All (AreRooms s (issue_len s)) issue_rooms
   pub places : len + dones + issues + others ≤ capacity
-  pub for_fault : has_fault events ≡ false → len + dones + issues + others + 1 ≤ capacity
+  pub for_fault : list_any is_fault events ≡ false → len + dones + issues + others + 1 ≤ capacity

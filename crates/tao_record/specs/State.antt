@@ -1,11 +1,9 @@
 -- What contracts see of a record that is being made: its history, and its capacity.
-use Rattle.std.specs.Prelude.{◌≡◌, ℕ, ◌+◌, ◌*◌, ◌≤◌, min, Bool, true, false, List, [], ◌∷◌, ◌++◌, All, length}
-use Rattle.std.specs.List.{list_any}
+use Rattle.std.specs.Prelude.{◌≡◌, ℕ, ◌+◌, ◌*◌, ◌≤◌, min, List, [], ◌∷◌, ◌++◌, All, length}
 use Rattle.tao_base.specs.Limits.{Shape}
 use Rattle.tao_base.specs.Session.{History}
 use Rattle.tao_base.specs.Tree.{node_count}
 use Rattle.tao_base.specs.declared.session.Event.{Event}
-use Rattle.tao_base.specs.declared.session.Event.TheVariants.{Arrive, Done, Issue, Acked, Fault}
 use Rattle.tao_base.specs.declared.storage.Bucket.{Bucket}
 
 -- the history so far, and for how many more Dones, Issues and other events there is capacity
@@ -59,15 +57,3 @@ FitDone s taken = AreBucketsOf s (done_len s) taken
 -- buckets that an Issue may have
 abbrev pub FitIssue : Shape → List Bucket → Type 0
 FitIssue s buckets = AreBucketsOf s (issue_len s) buckets
-
--- whether an event is a Fault
-abbrev pub is_fault : Event → Bool
-is_fault (Arrive client op word) = false
-is_fault (Done arrival taken) = false
-is_fault (Issue version nonce buckets) = false
-is_fault (Acked version) = false
-is_fault (Fault cause) = true
-
--- whether a Fault is among some events
-abbrev pub has_fault : List Event → Bool
-has_fault events = list_any is_fault events

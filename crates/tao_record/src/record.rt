@@ -48,7 +48,9 @@ impl Model for Record {
 }
 
 impl Record {
-    ghost use Rattle.tao_record.specs.State.{opened, added, FitDone, FitIssue, has_fault, KeepsSpare};
+    ghost use Rattle.tao_record.specs.State.{opened, added, FitDone, FitIssue, KeepsSpare};
+    ghost use Rattle.std.specs.List.{list_any};
+    ghost use Rattle.tao_base.specs.Session.{is_fault};
 
     /// An opening and no events. There is capacity for one Fault and for nothing else.
     pub fn begin(
@@ -141,7 +143,7 @@ impl Record {
 
     /// The session is over. There is always capacity for this.
     pub fn add_fault(&mut self, cause: Cause)
-        requires { has_fault self.old.history.events ≡ false }
+        requires { list_any is_fault self.old.history.events ≡ false }
         ensures { self.new ≡ added self.old (Fault cause) }
     {
         self.events.push_reserved(Event::Fault { cause });

@@ -25,7 +25,7 @@ use Rattle.tao_model.proofs.Stays.{newest_first, on_stays, pad_stays, real_stays
 use Rattle.tao_requests.specs.declared.request.Kind.{Kind}
 use Rattle.tao_requests.specs.declared.request.Kind.TheVariants.{Real, Fake}
 use Rattle.tao_requests.specs.declared.request.Request.{Request}
-use Rattle.tao_requests.specs.State.{is_real_kind, waits, is_under_way, kind_on, kind_now, first_answer, request_at, request_of, block_of, op_block, IsUnderWay}
+use Rattle.tao_requests.specs.State.{is_real_kind, waits, waits_on, kind_on, kind_now, first_answer, request_at, request_of, block_of, op_block, IsUnderWay}
 use Rattle.tao_requests.specs.Settling.{settled_from}
 use Rattle.tao_requests.specs.Queues.{is_on_at}
 use Rattle.tao_requests.specs.Laws.{Follows, KindIsReal, FollowsNone, FollowsArrive, FollowsReal, FollowsFake, FollowsFurther}
@@ -104,21 +104,21 @@ none_is (Some v) d e = ap not e
 
 kind_of_block : (es : List Event) (rs : List Request) (block : ℕ) → Following es rs
     → is_real_kind (kind_on rs block) ≡ not (any_below (λ i. is_on es i block && (is_real es i && not (is_done es i))) (arrived es))
-kind_of_block es rs block f = kind (list_any (is_under_way block) rs) ∙ ap not (sym whole)
+kind_of_block es rs block f = kind (list_any (waits_on block) rs) ∙ ap not (sym whole)
   where
     kind : (x : Bool) → is_real_kind (if x then Fake else Real) ≡ not x
     kind true = refl
     kind false = refl
 
-    same : (i : ℕ) → i < arrived es → is_under_way block (request_at rs i) ≡ (is_on es i block && (is_real es i && not (is_done es i)))
+    same : (i : ℕ) → i < arrived es → waits_on block (request_at rs i) ≡ (is_on es i block && (is_real es i && not (is_done es i)))
     same i below = ap (λ x. waits (request_at rs i) && (is_real_kind (request_at rs i).kind && x)) (sym (on_is es rs f i block below))
         ∙ (ap (λ y. waits (request_at rs i) && (y && is_on es i block)) (f.kinds i below)
         ∙ under_way_same (waits (request_at rs i)) (is_on es i block) (is_real es i) (is_done es i)
         (λ on real. none_is (request_at rs i).answer (is_done es i) (f.settled i below ∙ (settled_on es rs f i block below on ∙ ap (is_done es) (settles_itself es i block below on real)))))
 
-    whole : any_below (λ i. is_on es i block && (is_real es i && not (is_done es i))) (arrived es) ≡ list_any (is_under_way block) rs
-    whole = any_listed (λ i. is_on es i block && (is_real es i && not (is_done es i))) (is_under_way block) rs (arrived es) (omega (arith, as_many es rs f)) same
-        ∙ ap (list_any (is_under_way block)) (take_all (arrived es) rs (omega (arith, as_many es rs f)))
+    whole : any_below (λ i. is_on es i block && (is_real es i && not (is_done es i))) (arrived es) ≡ list_any (waits_on block) rs
+    whole = any_listed (λ i. is_on es i block && (is_real es i && not (is_done es i))) (waits_on block) rs (arrived es) (omega (arith, as_many es rs f)) same
+        ∙ ap (list_any (waits_on block)) (take_all (arrived es) rs (omega (arith, as_many es rs f)))
 
 pub kind_follows : (es : List Event) (rs : List Request) (op : Op) → Following es rs → is_real_kind (kind_now rs op) ≡ real_now es op
 kind_follows es rs (Read b) f = kind_of_block es rs b f

@@ -14,7 +14,7 @@ use Rattle.tao_model.specs.Lawful.{IsInRange}
 use Rattle.tao_requests.specs.declared.queues.Wait.{Wait}
 use Rattle.tao_requests.specs.declared.request.Kind.TheVariants.{Real, Fake}
 use Rattle.tao_requests.specs.declared.request.Request.{Request}
-use Rattle.tao_requests.specs.State.{request_at, request_of, is_real_kind, waits, is_under_way, kind_on, kind_now}
+use Rattle.tao_requests.specs.State.{request_at, request_of, is_real_kind, waits, waits_on, kind_on, kind_now}
 use Rattle.tao_requests.specs.Queues.{is_on_at, waits_at, is_real_at, wait_at, last_on, linked, kind_after, IsWithin, IsKept, kind_entering, lasts_entered, waits_entered, CanEnter}
 use Rattle.tao_requests.proofs.SettledLists.{on_within}
 use Rattle.tao_requests.proofs.OrderSteps.{differ, OneMore, NewLast, OnOneBlock, enters, same_order}
@@ -242,10 +242,10 @@ kind_of_block s b rs ws lasts h = which (last_on lasts b) refl
     kind_if x y e = ap (λ z. if z then Fake else Real) e
 
     which : (last : Option ℕ) → last_on lasts b ≡ last → kind_after last ≡ kind_on rs b
-    which None e = kind_if false (list_any (is_under_way b) rs) (sym (none_passes (is_under_way b) rs
+    which None e = kind_if false (list_any (waits_on b) rs) (sym (none_passes (waits_on b) rs
         (λ i p. let q = of_three (waits_at rs i) (is_real_at rs i) (is_on_at rs b i) p in differ (waits_at rs i) q.0 (h.queues.quiet b i e q.1))))
     which (Some k) e = let r = h.queues.real_one b k e in
-        kind_if true (list_any (is_under_way b) rs) (sym (list_any_at (is_under_way b) rs r.0 (request_of Pad Fake) (on_within b r.0 rs r.1) (three (waits_at rs r.0) (is_real_at rs r.0) (is_on_at rs b r.0) r.3 r.2 r.1)))
+        kind_if true (list_any (waits_on b) rs) (sym (list_any_at (waits_on b) rs r.0 (request_of Pad Fake) (on_within b r.0 rs r.1) (three (waits_at rs r.0) (is_real_at rs r.0) (is_on_at rs b r.0) r.3 r.2 r.1)))
 
 pub kind_is_now : (s : Shape) (op : Op) (rs : List Request) (ws : List Wait) (lasts : List (Option ℕ)) → IsKept s rs ws lasts → kind_entering lasts op ≡ kind_now rs op
 kind_is_now s (Read b) rs ws lasts h = kind_of_block s b rs ws lasts h

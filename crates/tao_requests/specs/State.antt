@@ -25,12 +25,12 @@ abbrev pub waits : Request → Bool
 waits request = is_none request.answer
 
 -- a real request on the block that isn't settled: the block's fetch is under way
-abbrev pub is_under_way : ℕ → Request → Bool
-is_under_way block request = waits request && (is_real_kind request.kind && names block request.op)
+abbrev pub waits_on : ℕ → Request → Bool
+waits_on block request = waits request && (is_real_kind request.kind && names block request.op)
 
 -- the kind of a new request on this block: fake while a real one on it is under way
 abbrev pub kind_on : List Request → ℕ → Kind
-kind_on requests block = if list_any (is_under_way block) requests then Fake else Real
+kind_on requests block = if list_any (waits_on block) requests then Fake else Real
 
 -- A request is real if it is on a block and no real request on that block is under way. A pad is fake.
 abbrev pub kind_now : List Request → Op → Kind

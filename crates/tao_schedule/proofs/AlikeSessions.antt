@@ -11,7 +11,7 @@ use Rattle.tao_base.specs.declared.storage.Bucket.{Bucket}
 use Rattle.tao_base.specs.Limits.{session_limit}
 use Rattle.tao_base.specs.Session.{Opening, History}
 use Rattle.tao_base.specs.Tree.{node_at, path, leaf_of}
-use Rattle.tao_model.specs.Events.{arrived, dones, issues, word_of, word_at}
+use Rattle.tao_model.specs.Events.{arrived, dones, issues, word_of, word_at, is_under_way, is_outstanding}
 use Rattle.tao_model.specs.Requests.{fetched_leaf, word_used}
 use Rattle.tao_model.specs.Replies.{op_of, ops}
 use Rattle.tao_model.specs.Lawful.{FollowsLawfully}
@@ -23,7 +23,7 @@ use Rattle.tao_laws.proofs.KindsAlone.{picked_back, same_steps, kinds_need_no_wo
 use Rattle.tao_laws.proofs.ToldTraces.{told_again, again_is}
 use Rattle.tao_text.specs.declared.script.What.{What}
 use Rattle.tao_text.specs.Breaks.{is_arrival}
-use Rattle.tao_schedule.specs.Moves.{Move, Arrives, Serves, Completes, Applies, Acknowledges, nodes_issued, seen, is_served, is_applied, is_under_way, is_outstanding}
+use Rattle.tao_schedule.specs.Moves.{Move, Arrives, Serves, Completes, Applies, Acknowledges, nodes_issued, seen, is_served, is_applied}
 use Rattle.tao_schedule.specs.Schedules.{Goes, IsSchedule, GoOn, TakesIn}
 use Rattle.tao_schedule.specs.Steps.{is_misplaced, is_full, moves_of, rest_of, seen_step, asked_behind, IsPart, AreParts, IsStep, ArePlayed}
 use Rattle.tao_schedule.specs.Alike.{IsSession, SameLeaves, AreAlike, AlikeSteps, AlikeTests, TestsNeedNoOp, StepGoesOn, PlayedIsAllowed, AlikeGoOn, OneSchedule, PlayedFront, MisplacedStays}

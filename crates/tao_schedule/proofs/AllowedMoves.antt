@@ -9,7 +9,7 @@ use Rattle.tao_base.specs.declared.session.Event.TheVariants.{Arrive, Done, Issu
 use Rattle.tao_base.specs.Session.{Opening}
 use Rattle.tao_base.specs.Tree.{node_at, path, node_count}
 use Rattle.tao_base.specs.Limits.{session_limit}
-use Rattle.tao_model.specs.Events.{arrived}
+use Rattle.tao_model.specs.Events.{arrived, is_under_way, is_outstanding}
 use Rattle.tao_model.specs.Requests.{fetches, fetched_leaf}
 use Rattle.tao_model.specs.Residence.{is_issued}
 use Rattle.tao_model.specs.Lawful.{FollowsLawfully}
@@ -18,7 +18,7 @@ use Rattle.tao_model.proofs.FallingPaths.{has, has_below, has_reverse, on_path_h
 use Rattle.tao_laws.proofs.Listings.{HasOnce, has_filter, once_append, once_filter, listed_at}
 use Rattle.tao_laws.proofs.RecentNodes.{leaf_low}
 use Rattle.tao_text.specs.declared.script.What.{What}
-use Rattle.tao_schedule.specs.Moves.{Move, Serves, Applies, is_served, is_applied, is_under_way, is_outstanding, nodes_issued}
+use Rattle.tao_schedule.specs.Moves.{Move, Serves, Applies, is_served, is_applied, nodes_issued}
 use Rattle.tao_schedule.specs.Schedules.{Goes, GoOn}
 use Rattle.tao_schedule.specs.Steps.{is_misplaced, is_full, moves_of}
 use Rattle.tao_schedule.specs.Laws.{ChangesNone, PlacedMayGo}

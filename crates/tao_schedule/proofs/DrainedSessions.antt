@@ -7,7 +7,7 @@ use Rattle.tao_base.specs.declared.session.Event.{Event}
 use Rattle.tao_base.specs.declared.session.Event.TheVariants.{Arrive, Done, Issue, Acked, Fault}
 use Rattle.tao_base.specs.declared.storage.Bucket.{Bucket}
 use Rattle.tao_base.specs.Session.{Opening}
-use Rattle.tao_model.specs.Events.{arrived, dones, issues, acks, is_done, is_acked}
+use Rattle.tao_model.specs.Events.{arrived, dones, issues, acks, is_done, is_acked, is_under_way, is_outstanding}
 use Rattle.tao_base.specs.Tree.{path}
 use Rattle.tao_model.specs.Requests.{fetched_leaf}
 use Rattle.tao_model.specs.Lawful.{FollowsLawfully}
@@ -15,7 +15,7 @@ use Rattle.tao_model.proofs.FallingPaths.{has}
 use Rattle.tao_model.proofs.LawfulToWhole.{done_kept}
 use Rattle.tao_laws.proofs.Listings.{HasOnce, has_filter, has_range, length_listing}
 use Rattle.tao_text.specs.declared.script.What.{What}
-use Rattle.tao_schedule.specs.Moves.{Move, Applies, Acknowledges, nodes_issued, seen, is_served, is_under_way, is_outstanding}
+use Rattle.tao_schedule.specs.Moves.{Move, Applies, Acknowledges, nodes_issued, seen, is_served}
 use Rattle.tao_schedule.specs.Schedules.{Goes, IsSchedule, GoOn}
 use Rattle.tao_schedule.specs.Steps.{moves_of, IsPart, AreParts}
 use Rattle.tao_schedule.specs.Alike.{SameLeaves, AreAlike}

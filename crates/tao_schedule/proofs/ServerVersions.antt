@@ -7,14 +7,14 @@ use Rattle.tao_base.specs.declared.session.Event.{Event}
 use Rattle.tao_base.specs.declared.session.Event.TheVariants.{Arrive, Done, Issue, Acked, Fault}
 use Rattle.tao_base.specs.declared.storage.Bucket.{Bucket}
 use Rattle.tao_base.specs.Session.{Opening}
-use Rattle.tao_model.specs.Events.{arrived, issues, is_done}
+use Rattle.tao_model.specs.Events.{arrived, issues, is_done, is_under_way}
 use Rattle.tao_model.specs.Requests.{fetches}
 use Rattle.tao_model.specs.Residence.{bucket_of, is_issued, is_covered, departs, is_resident, newest_version}
 use Rattle.tao_model.specs.Lawful.{FollowsLawfully}
 use Rattle.tao_model.proofs.RealArrivals.{none_passes}
 use Rattle.tao_model.proofs.DonesInOrder.{fetch_stays}
 use Rattle.tao_laws.proofs.WrittenNodes.{issued_from, away_unwritten, leaves_parts, leaves_from}
-use Rattle.tao_schedule.specs.Moves.{Move, Arrives, Serves, Completes, Applies, Acknowledges, server_version, served_version, is_served, is_applied, is_under_way}
+use Rattle.tao_schedule.specs.Moves.{Move, Arrives, Serves, Completes, Applies, Acknowledges, server_version, served_version, is_served, is_applied}
 use Rattle.tao_schedule.specs.Schedules.{Goes, IsSchedule, TakesIn}
 use Rattle.tao_schedule.specs.Laws.{ServerInStep, StaysInStep}
 

@@ -4,10 +4,10 @@ use Rattle.std.specs.Prelude.{◌≡◌, ℕ, ◌+◌, List, [], ◌∷◌, ◌+
 use Rattle.std.specs.List.{flat_map, range_with_len}
 use Rattle.tao_base.specs.declared.session.Event.{Event}
 use Rattle.tao_base.specs.Session.{Opening}
-use Rattle.tao_model.specs.Events.{arrived, dones, issues, acks}
+use Rattle.tao_model.specs.Events.{arrived, dones, issues, acks, is_under_way, is_outstanding}
 use Rattle.tao_model.specs.Lawful.{FollowsLawfully}
 use Rattle.tao_text.specs.declared.script.What.{What}
-use Rattle.tao_schedule.specs.Moves.{Move, Applies, Acknowledges, is_under_way, is_outstanding, nodes_issued}
+use Rattle.tao_schedule.specs.Moves.{Move, Applies, Acknowledges, nodes_issued}
 use Rattle.tao_schedule.specs.Schedules.{IsSchedule, GoOn}
 use Rattle.tao_schedule.specs.Steps.{AreParts}
 use Rattle.tao_schedule.specs.Alike.{AreAlike}

@@ -4,13 +4,13 @@ use Rattle.tao_base.specs.declared.session.Event.{Event}
 use Rattle.tao_base.specs.declared.session.Event.TheVariants.{Acked}
 use Rattle.tao_base.specs.Limits.{Shape, session_limit}
 use Rattle.tao_base.specs.Session.{Opening}
-use Rattle.tao_model.specs.Events.{arrived, issues, is_acked}
+use Rattle.tao_model.specs.Events.{arrived, issues, is_acked, is_under_way}
 use Rattle.tao_model.specs.Requests.{fetches}
 use Rattle.tao_model.specs.Residence.{is_resident, newest_version, newest_write}
 use Rattle.tao_model.specs.LookBacks.{written_at}
 use Rattle.tao_model.specs.Lawful.{FollowsLawfully}
 use Rattle.tao_text.specs.declared.script.What.{What}
-use Rattle.tao_schedule.specs.Moves.{Move, Acknowledges, server_version, served_version, is_served, is_under_way}
+use Rattle.tao_schedule.specs.Moves.{Move, Acknowledges, server_version, served_version, is_served}
 use Rattle.tao_schedule.specs.Schedules.{IsSchedule, Goes, GoOn}
 use Rattle.tao_schedule.specs.Steps.{is_misplaced, is_full, moves_of}
 

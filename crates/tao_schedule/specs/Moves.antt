@@ -1,10 +1,9 @@
 -- The moves of a session, and the versions that they leave at the server. Moves and events are newest first.
-use Rattle.std.specs.Prelude.{ℕ, ◌==◌, nat_lt, nat_le, max, Bool, false, not, ◌&&◌, ◌||◌, if◌then◌else◌, List, [], ◌∷◌}
+use Rattle.std.specs.Prelude.{ℕ, ◌==◌, max, Bool, false, ◌&&◌, ◌||◌, if◌then◌else◌, List, [], ◌∷◌}
 use Rattle.tao_base.specs.declared.calls.Op.{Op}
 use Rattle.tao_base.specs.declared.calls.Op.TheVariants.{Pad}
 use Rattle.tao_base.specs.declared.session.Event.{Event}
 use Rattle.tao_base.specs.declared.session.Event.TheVariants.{Arrive, Done, Issue, Acked, Fault}
-use Rattle.tao_model.specs.Events.{arrived, issues, is_done, is_acked}
 use Rattle.tao_model.specs.Trace.{nodes_in}
 
 -- A move: a client asks, with a tape word; the server reads a node for a fetch; a fetch's whole path reaches the proxy;
@@ -51,14 +50,6 @@ is_applied (Serves fetch served ∷ ms) v node = is_applied ms v node
 is_applied (Completes fetch ∷ ms) v node = is_applied ms v node
 is_applied (Applies version applied ∷ ms) v node = ((version == v) && (applied == node)) || is_applied ms v node
 is_applied (Acknowledges version ∷ ms) v node = is_applied ms v node
-
--- a fetch that was requested and isn't done
-abbrev pub is_under_way : List Event → ℕ → Bool
-is_under_way es i = nat_lt i (arrived es) && not (is_done es i)
-
--- a write-back that was issued and isn't acknowledged
-abbrev pub is_outstanding : List Event → ℕ → Bool
-is_outstanding es v = nat_lt 0 v && (nat_le v (issues es) && not (is_acked es v))
 
 -- the nodes of the write-back of this version
 abbrev pub nodes_issued : List Event → ℕ → List ℕ

@@ -5,11 +5,11 @@ use Rattle.tao_base.specs.declared.session.Event.TheVariants.{Arrive, Done, Issu
 use Rattle.tao_base.specs.declared.storage.Bucket.{Bucket}
 use Rattle.tao_base.specs.Limits.{session_limit}
 use Rattle.tao_base.specs.Session.{Opening}
-use Rattle.tao_model.specs.Events.{arrived}
+use Rattle.tao_model.specs.Events.{arrived, is_under_way, is_outstanding}
 use Rattle.tao_model.specs.Requests.{fetches}
 use Rattle.tao_model.specs.Residence.{is_issued}
 use Rattle.tao_model.specs.Lawful.{OwesNone}
-use Rattle.tao_schedule.specs.Moves.{Move, Arrives, Serves, Completes, Applies, Acknowledges, is_served, is_applied, is_under_way, is_outstanding}
+use Rattle.tao_schedule.specs.Moves.{Move, Arrives, Serves, Completes, Applies, Acknowledges, is_served, is_applied}
 
 -- A fetched path is admitted: one more Done, and its write-back if one is due. Afterwards none is due.
 abbrev pub TakesIn : Opening → List Event → ℕ → List Event → Type 0

@@ -8,12 +8,12 @@ use Rattle.tao_base.specs.declared.session.Event.TheVariants.{Arrive}
 use Rattle.tao_base.specs.Limits.{session_limit}
 use Rattle.tao_base.specs.Session.{Opening}
 use Rattle.tao_base.specs.Tree.{node_at, path}
-use Rattle.tao_model.specs.Events.{arrived, dones, issues}
+use Rattle.tao_model.specs.Events.{arrived, dones, issues, is_under_way, is_outstanding}
 use Rattle.tao_model.specs.Requests.{fetched_leaf}
 use Rattle.tao_model.specs.Residence.{is_issued}
 use Rattle.tao_text.specs.declared.script.What.{What}
 use Rattle.tao_text.specs.Breaks.{is_arrival}
-use Rattle.tao_schedule.specs.Moves.{Move, Arrives, Serves, Completes, Applies, Acknowledges, is_served, is_applied, is_under_way, is_outstanding, nodes_issued}
+use Rattle.tao_schedule.specs.Moves.{Move, Arrives, Serves, Completes, Applies, Acknowledges, is_served, is_applied, nodes_issued}
 use Rattle.tao_schedule.specs.Schedules.{GoOn}
 
 -- whether a step may not come after these moves and events
