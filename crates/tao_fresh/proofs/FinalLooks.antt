@@ -19,42 +19,15 @@ use Rattle.tao_model.proofs.FallingPaths.{has}
 use Rattle.tao_model.proofs.Places.{done_arrived}
 use Rattle.tao_model.proofs.LawfulToWhole.{follows_opening}
 use Rattle.tao_laws.specs.SettledValues.{settled_value}
+use Rattle.tao_laws.proofs.CountedWork.{work_from}
 use Rattle.tao_laws.proofs.Listings.{has_filter, range_has}
 use Rattle.tao_laws.proofs.RecentNodes.{bucket_in}
 use Rattle.tao_laws.proofs.RightValues.{right_from, length_now}
 use Rattle.tao_contents.proofs.Seen.{final_array}
 use Rattle.tao_held.specs.Held.{held, newest_entries, entries_of_option}
-use Rattle.tao_held.specs.Counted.{count_below}
-use Rattle.tao_held.proofs.Counts.{count_within, count_full, count_more}
-use Rattle.tao_fresh.specs.FreshLaws.{CountsDones, DonesAreCounted, IsHonestScan, ArrayIsSeen}
+use Rattle.tao_fresh.specs.FreshLaws.{IsHonestScan, ArrayIsSeen}
 use Rattle.tao_fresh.proofs.WrittenBuckets.{bucket_found, entries_found}
 use Rattle.tao_fresh.proofs.FreshCopies.{fresh_from}
-
--- ---- as many Dones as done arrivals
-
-counted : (o : Opening) (es : List Event) → FollowsLawfully o es → dones es ≡ count_below (is_done es) (arrived es)
-counted o [] f = refl
-counted o (Arrive client op word ∷ es) f =
-    let next : suc (arrived es) ≡ arrived es + 1 = omega arith in
-    counted o es f.0 ∙ sym (ap (λ t. cond t (count_below (is_done es) (arrived es) + 1) (count_below (is_done es) (arrived es))) (done_arrived o es (arrived es) f.0 (omega arith)))
-    ∙ ap (count_below (is_done es)) next
-counted o (Done a taken ∷ es) f = ap (λ n. n + 1) (counted o es f.0) ∙ sym (count_more (is_done es) a (arrived es) f.2.1.arrived f.2.1.under_way)
-counted o (Issue version nonce buckets ∷ es) f = counted o es f.0
-counted o (Acked version ∷ es) f = counted o es f.0
-counted o (Fault cause ∷ es) f = counted o es f.0
-
-pub counts_from : (o : Opening) (es : List Event) → FollowsLawfully o es → CountsDones es
-counts_from o es f = record {
-  count = count;
-  within = let low = count_within (is_done es) (arrived es) in omega (arith, count);
-  all = λ full. count_full (is_done es) (arrived es) (sym count ∙ full);
-}
-  where
-    count : dones es ≡ count_below (is_done es) (arrived es)
-    count = counted o es f
-
-pub dones_are_counted : DonesAreCounted
-dones_are_counted o events f = counts_from o (reverse events) f
 
 -- ---- nothing is written outside the tree
 
@@ -104,7 +77,7 @@ array_is_seen o events taken nodes p u full scan all =
     (λ w. held o (reverse events) w) (λ w. newest_entries o (reverse events) w) (entries_at taken) nodes (record {
       blocks = length_now o (reverse events) ∙ (follows_opening o (reverse events) p.follows).blocks;
       leaves = λ b low. mod-lt (word_at o (reverse events) (position_word o (reverse events) b)) (pow_pos o.shape.l);
-      quiet = λ b low. (right_from o (reverse events) b).quiet (λ i there on real. (counts_from o (reverse events) p.follows).all full i there);
+      quiet = λ b low. (right_from o (reverse events) b).quiet (λ i there on real. (work_from o (reverse events) p.follows).all full i there);
       honest = scan_reads o (reverse events) taken p.opens p.follows scan;
       fresh = fresh_from o (reverse events) p.opens p.follows p.writes u;
     }) all

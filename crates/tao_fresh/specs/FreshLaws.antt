@@ -22,7 +22,6 @@ use Rattle.tao_laws.specs.SettledValues.{settled_value}
 use Rattle.tao_contents.specs.FinalArray.{AreAllNodes, seen_array}
 use Rattle.tao_contents.specs.CleanLaws.{CleanResidents}
 use Rattle.tao_contents.specs.WriteBackLaws.{FreshWrites}
-use Rattle.tao_held.specs.Counted.{count_below}
 use Rattle.tao_held.specs.Held.{value_since, value_between, held, found_value, served_answer, newest_entries, is_recent, IsOfProxy}
 
 -- ---- values
@@ -101,16 +100,6 @@ abbrev pub WritesAreFresh : Type 0
 WritesAreFresh = (o : Opening) (events : List Event) → IsOfProxy o (reverse events) → Unaltered HasEntriesOf o (reverse events) → FreshWritesOf o (reverse events)
 
 -- ---- the final look
-
--- There are as many Dones as done arrivals. So if there are as many Dones as arrivals, all arrivals are done.
-pub record CountsDones (es : List Event) : Type 0 where
-  pub count : dones es ≡ count_below (is_done es) (arrived es)
-  pub within : dones es ≤ arrived es
-  pub all : dones es ≡ arrived es → (i : ℕ) → i < arrived es → is_done es i ≡ true
-
--- this holds for every record that follows lawfully
-abbrev pub DonesAreCounted : Type 0
-DonesAreCounted = (o : Opening) (events : List Event) → FollowsLawfully o (reverse events) → CountsDones (reverse events)
 
 -- an honest scan reads each node of the tree that the proxy doesn't hold as it was last written
 pub record IsHonestScan (o : Opening) (es : List Event) (taken : List Bucket) : Type 0 where

@@ -10,6 +10,6 @@ mod writes;
 
 pub use answers::{answers_are_right, found_is_plain};
 pub use copies::{copies_are_fresh, residents_are_clean};
-pub use final_look::{array_is_seen, dones_are_counted};
+pub use final_look::array_is_seen;
 pub use values::{plain_between, settled_moves, settled_stays};
 pub use writes::writes_are_fresh;

@@ -1,6 +1,5 @@
 pub mod AlikeContents
 pub mod Blocks
-pub mod Counts
 pub mod HeldAnswers
 pub mod HeldSteps
 pub mod WorkedHolds

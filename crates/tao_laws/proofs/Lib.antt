@@ -1,5 +1,7 @@
 pub mod AnswersAsWritten
 pub mod AskedNodes
+pub mod CountedWork
+pub mod Counts
 pub mod DistinctPlaces
 pub mod EqualPlays
 pub mod HandedWords
@@ -8,6 +10,7 @@ pub mod Listings
 pub mod OpenArrivals
 pub mod Permutations
 pub mod RecentNodes
+pub mod RetoldPlaces
 pub mod RightValues
 pub mod ToldTraces
 pub mod WrittenNodes

@@ -1,6 +1,7 @@
 -- Laws of two plays of one schedule: records with equal parameters and steps, whose operations may differ. Events are oldest first.
 use Rattle.std.specs.Prelude.{◌≡◌, ℕ, ◌+◌, ◌<◌, Bool, List, reverse, take}
-use Rattle.tao_base.specs.Session.{History}
+use Rattle.tao_base.specs.declared.session.Event.{Event}
+use Rattle.tao_base.specs.Session.{Opening, History}
 use Rattle.tao_model.specs.Events.{arrived}
 use Rattle.tao_model.specs.Requests.{is_real, next_word, word_used, fetched_leaf}
 use Rattle.tao_model.specs.Replies.{ops}
@@ -39,9 +40,13 @@ abbrev pub PermutationIsOneToOne : Type 0
 PermutationIsOneToOne = (first second : History) → AreInRange first.opening (reverse first.events) → AreInRange second.opening (reverse second.events)
     → IsOneShape first second → IsTwin first second
 
+-- the arrivals of the first fetch the same leaves in the second; the events are newest first
+abbrev pub LeavesAgree : Opening → List Event → Opening → List Event → Type 0
+LeavesAgree o es other others = (i : ℕ) → i < arrived es → fetched_leaf o es i ≡ fetched_leaf other others i
+
 -- The server sees the same: the leaf of each fetch, the requests of each prefix, and the whole traces.
 pub record HasEqualTraces (first second : History) : Type 0 where
-  pub leaves : (i : ℕ) → i < arrived (reverse first.events) → fetched_leaf first.opening (reverse first.events) i ≡ fetched_leaf second.opening (reverse second.events) i
+  pub leaves : LeavesAgree first.opening (reverse first.events) second.opening (reverse second.events)
   pub fronts : (count : ℕ) → requests first.opening (reverse (take count first.events)) ≡ requests second.opening (reverse (take count second.events))
   pub whole : (again : List ℕ) (scanned : Bool) → request_trace first again scanned ≡ request_trace second again scanned
 
@@ -50,11 +55,7 @@ abbrev pub EqualTraces : Type 0
 EqualTraces = (first second : History) → FollowsLawfully first.opening (reverse first.events) → FollowsLawfully second.opening (reverse second.events)
     → IsOneShape first second → HasMovedWords first.opening (reverse first.events) second.opening (reverse second.events) → HasEqualTraces first second
 
--- Both plays fetch the same leaves.
-abbrev pub SameLeaves : History → History → Type 0
-SameLeaves first second = (i : ℕ) → i < arrived (reverse first.events) → fetched_leaf first.opening (reverse first.events) i ≡ fetched_leaf second.opening (reverse second.events) i
-
--- Then the server sees the same.
+-- Then the server sees the same, if both fetch the same leaves.
 abbrev pub LeavesTellTraces : Type 0
 LeavesTellTraces = (first second : History) → FollowsLawfully first.opening (reverse first.events) → FollowsLawfully second.opening (reverse second.events)
-    → IsOneShape first second → SameLeaves first second → HasEqualTraces first second
+    → IsOneShape first second → LeavesAgree first.opening (reverse first.events) second.opening (reverse second.events) → HasEqualTraces first second

@@ -2,12 +2,15 @@
 //! The only code is laws: functions with empty bodies, whose contract is the law.
 #![tactic(auto)]
 
+mod counted;
 mod honest_fetches;
 mod open_requests;
 mod residents;
+mod retold;
 mod tape_words;
 mod two_plays;
 
+pub use counted::{acks_are_counted, quiet_is_counted, work_is_counted};
 pub use honest_fetches::{unaltered_by_test, unaltered_means};
 pub use open_requests::{
     leaf_is_position, one_real, queue_of_block, quiet_is_settled, released_is_settled, right_value,
@@ -18,6 +21,7 @@ pub use residents::{
     leaves_acknowledged, one_answer_is_newest, periods_are_counted, recent_is_resident,
     untouched_since, written_after_touch,
 };
+pub use retold::{places_move, retold_is_twin};
 pub use tape_words::{distinct_words, lawful_is_in_range, words_are_known};
 pub use two_plays::{
     equal_traces, kinds_need_no_word, leaves_tell_traces, permutation_is_one_to_one,

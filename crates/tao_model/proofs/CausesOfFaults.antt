@@ -53,7 +53,7 @@ no_fetch o es fetch node low refused away = either away.1
 
 pub fetches_that_cannot_fail : FetchesThatCannotFail
 fetches_that_cannot_fail = record {
-  not_arrived = no_fetch opened (after 8) 2 3 (ltb-true 2 (2 ^ 32) refl) (λ is. let wrong : 2 < 2 = is.0 in omega arith);
+  not_arrived = no_fetch opened (after 8) 2 1 (ltb-true 2 (2 ^ 32) refl) (λ is. let wrong : 2 < 2 = is.0 in omega arith);
   is_done = no_fetch opened (after 12) 2 3 (ltb-true 2 (2 ^ 32) refl) (λ is. true≢false is.1);
   off_path = no_fetch opened (after 9) 2 2 (ltb-true 2 (2 ^ 32) refl) (λ is. false≢true is.2);
   held = λ away. true≢false away.0;

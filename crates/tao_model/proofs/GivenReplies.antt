@@ -1,5 +1,5 @@
 -- The text with the answers that were given. The events `es` are newest first, those of the rest oldest first.
-use Rattle.std.proofs.Common.{◌≡◌, ℕ, zero, suc, ◌+◌, ◌-◌, ◌<◌, ◌≤◌, cond, List, [], ◌∷◌, ◌++◌, reverse, codes, refl, sym, ap, ◌∙◌, subst, arith, inl, inr, ◌⊎◌}
+use Rattle.std.proofs.Common.{◌≡◌, ℕ, zero, suc, ◌+◌, ◌-◌, ◌<◌, ◌≤◌, cond, List, [], ◌∷◌, ◌++◌, reverse, codes, refl, sym, ap, ◌∙◌, subst, arith}
 use Rattle.std.specs.List.{flat_map, range_with_len}
 use Rattle.std.proofs.lemmas.List.{reverse-append, append_assoc, append-nil}
 use Rattle.tao_base.specs.declared.session.Event.{Event}
@@ -8,7 +8,7 @@ use Rattle.tao_base.specs.Lines.{hex_line, words_line}
 use Rattle.tao_base.specs.Session.{Opening}
 use Rattle.tao_model.specs.Events.{arrived, client_of, is_done, is_pad}
 use Rattle.tao_model.specs.Replies.{plain_reply, released}
-use Rattle.tao_model.specs.Transcript.{reply_line_with, reply_lines_with, event_lines_with, lines_from_with, again_before, opening_lines, closing_lines, acks_in, GivenIsPlain}
+use Rattle.tao_model.specs.Transcript.{reply_line_with, event_lines_with, lines_from_with, opening_lines, closing_lines, acks_in, GivenIsPlain}
 use Rattle.tao_model.proofs.Growth.{leading_is, released_grows_later, reply_stays_later}
 
 -- texts of a range of numbers that agree number by number

@@ -36,6 +36,7 @@ refusals_are_told = record {
   skips_a_version = λ is. let wrong : 2 ≡ 1 = is.follows.2.next in omega arith;
   nonce_again = λ is. let wrong : 3 ≡ 4 = is.follows.2.counts_on in omega arith;
   same_nonce = λ is. let wrong : 4 ≡ 5 = ap second is.follows.2.nonces in omega arith;
+  before_its_period = λ is. let wrong : 1 ≡ 3 = is.follows.2.due in omega arith;
   acknowledged_early = λ is. let wrong : 1 ≤ 0 = is.follows.2.2 in omega arith;
   done_again = λ is. true≢false is.follows.2.1.under_way;
   done_before_arrival = λ is. let wrong : 1 < 1 = is.follows.2.1.arrived in omega arith;

@@ -24,5 +24,6 @@ pub mod WorkedAnswers
 pub mod WorkedFaults
 pub mod WorkedLawful
 pub mod WorkedPlays
+pub mod WorkedProgress
 pub mod WorkedRefusals
 pub mod WorkedResends

@@ -34,7 +34,7 @@ pub record StaleThatCannotBe : Type 0 where
 
 -- A fetch looks at nodes of its path that the proxy doesn't hold, from its arrival until it is done.
 pub record FetchesThatCannotFail : Type 0 where
-  pub not_arrived : MayFailAfter write_backs_out_of_order 8 (Damaged 2 3 bucket_faults.Tag) → ⊥
+  pub not_arrived : MayFailAfter write_backs_out_of_order 8 (Damaged 2 1 bucket_faults.Tag) → ⊥
   pub is_done : MayFailAfter write_backs_out_of_order 12 (Damaged 2 3 bucket_faults.Tag) → ⊥
   pub off_path : MayFailAfter write_backs_out_of_order 9 (Damaged 2 2 bucket_faults.Tag) → ⊥
   pub held : MayFailAfter kept_under_a_fetch 5 (Damaged 1 1 bucket_faults.Tag) → ⊥

@@ -57,6 +57,7 @@ pub record RefusalsAreTold : Type 0 where
   pub skips_a_version : IsLawful (one_fetched (one_written 2 4 5 ∷ [])) → ⊥
   pub nonce_again : IsLawful (one_fetched (one_written 1 3 4 ∷ [])) → ⊥
   pub same_nonce : IsLawful (one_fetched (one_written 1 4 4 ∷ [])) → ⊥
+  pub before_its_period : IsLawful (one_of_three (Issue 1 4 (bucket 1 1 4 [] ∷ bucket 2 1 5 (entry 0 zero ∷ []) ∷ []) ∷ [])) → ⊥
   pub acknowledged_early : IsLawful (one_of_three (Acked 1 ∷ [])) → ⊥
   pub done_again : IsLawful (one_of_three (Done 0 [] ∷ [])) → ⊥
   pub done_before_arrival : IsLawful (one_of_three (Done 1 [] ∷ [])) → ⊥

@@ -1,11 +1,12 @@
 -- A worked record whose stores are sent again, as a text and as the server sees it, closed and not closed.
 use Rattle.std.specs.Prelude.{◌≡◌, ℕ, false, true, List, [], ◌∷◌, ◌++◌, take, None, codes}
+use Rattle.std.specs.List.{flat_map}
 use Rattle.tao_base.specs.Session.{History}
 use Rattle.tao_model.specs.declared.trace.Request.{Request}
 use Rattle.tao_model.specs.declared.trace.Request.TheVariants.{Load, Fetch, Store, Again, Scan}
 use Rattle.tao_model.specs.Trace.{request_trace}
-use Rattle.tao_model.specs.Transcript.{transcript}
-use Rattle.tao_model.specs.Worked.{history, write_backs_out_of_order, IsTold}
+use Rattle.tao_model.specs.Transcript.{transcript, transcript_with, request_line}
+use Rattle.tao_model.specs.Worked.{history, all_a, one_read, write_backs_out_of_order, IsTold}
 
 -- Two write-backs, the later of which is acknowledged first.
 abbrev pub both_acknowledged : History
@@ -39,3 +40,13 @@ pub record ResendsAreSeen : Type 0 where
   pub later_first : request_trace both_acknowledged (2 ∷ 1 ∷ []) false
       ≡ requests_before ++ Again 2 6 (1 ∷ 3 ∷ []) ∷ Again 1 4 (1 ∷ 2 ∷ []) ∷ []
   pub none : request_trace both_acknowledged [] false ≡ requests_before
+
+-- the lines of these requests
+abbrev pub RequestsAreTold : Type 0
+RequestsAreTold = flat_map request_line (request_trace both_acknowledged (1 ∷ 2 ∷ []) true)
+    ≡ codes "load 3\nfetch 0 0\nstore 1 4 1 2\nfetch 1 1\nstore 2 6 1 3\nagain 1 4 1 2\nagain 2 6 1 3\nscan\n"
+
+-- The text of the one read where another value was answered.
+abbrev pub GivenAreTold : Type 0
+GivenAreTold = transcript_with (λ es i. all_a) one_read 0 None (codes "end 8\n")
+    ≡ codes "tree 1 1 4 1 1\nload 3\narrive 0 0 read 0\nfetch 0 1\ndone 0\nreply 0 0 61616161\nstore 1 4 1 3\nack 1\nend 8\n"

@@ -17,6 +17,7 @@ mod worked;
 mod worked_answers;
 mod worked_faults;
 mod worked_plays;
+mod worked_progress;
 mod worked_refusals;
 mod worked_resends;
 
@@ -57,5 +58,6 @@ pub use worked_faults::{
     causes_that_can_be, fetches_that_cannot_fail, scans_that_cannot_fail, stale_that_cannot_be,
 };
 pub use worked_plays::{touched_since_is_kept, trace_out_of_order, twin_of_reads};
+pub use worked_progress::{ends_are_told, progress_is_told, writes_are_told};
 pub use worked_refusals::{forms_are_told, refusals_are_told};
-pub use worked_resends::{resends_are_seen, resends_are_told};
+pub use worked_resends::{given_are_told, requests_are_told, resends_are_seen, resends_are_told};

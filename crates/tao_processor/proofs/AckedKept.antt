@@ -23,7 +23,7 @@ use Rattle.tao_tables.specs.Flags.{TellsFlags, IsFree}
 use Rattle.tao_tables.specs.Positions.{TellsPositions}
 use Rattle.tao_tables.specs.WriteBacks.{IsIssueAt}
 use Rattle.tao_tables.specs.Pools.{HasPools, AreCounts, AckedInRoom}
-use Rattle.tao_tables.proofs.CountedWork.{acks_are_counted}
+use Rattle.tao_laws.proofs.CountedWork.{acks_are_counted}
 use Rattle.tao_tables.proofs.KeptAnswers.{served_else}
 use Rattle.tao_tables.proofs.KeptFlags.{flags_are_told}
 use Rattle.tao_tables.proofs.KeptRows.{rows_are_told, positions_are_told}

@@ -17,7 +17,7 @@ use Rattle.tao_model.specs.OneMore.{with_one_more, AfterArrive}
 use Rattle.tao_model.proofs.OneMoreEvent.{one_more_arrive}
 use Rattle.tao_model.proofs.Stays.{newest_first}
 use Rattle.tao_laws.proofs.HandedWords.{was_quiet, leaf_is_position}
-use Rattle.tao_held.proofs.Counts.{count_within}
+use Rattle.tao_laws.proofs.Counts.{count_within}
 use Rattle.tao_tables.specs.Rows.{TellsRows, AddsRow}
 use Rattle.tao_tables.specs.Positions.{TellsPositions}
 use Rattle.tao_tables.specs.Pools.{Pools, HasPools, KeepsPools, AreCounts, ArrivesInRoom}

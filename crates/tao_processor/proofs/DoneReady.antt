@@ -22,13 +22,13 @@ use Rattle.tao_base.specs.Buckets.{IsInForm}
 use Rattle.tao_model.specs.Lawful.{FollowsLawfully, MayFollow, touched_after}
 use Rattle.tao_model.specs.OneMore.{with_one_more}
 use Rattle.tao_held.specs.Held.{block_on}
-use Rattle.tao_held.proofs.Counts.{count_less}
+use Rattle.tao_laws.proofs.Counts.{count_less}
 use Rattle.tao_held.proofs.Blocks as blocks
 use Rattle.tao_tables.specs.Tables.{cover_count}
 use Rattle.tao_tables.specs.WriteBacks.{IsRecentList}
-use Rattle.tao_tables.specs.Counted.{CountsWork}
+use Rattle.tao_laws.specs.Counted.{CountsWork}
 use Rattle.tao_tables.specs.Pools.{AreCounts, DoneInRoom}
-use Rattle.tao_tables.proofs.CountedWork.{work_is_counted}
+use Rattle.tao_laws.proofs.CountedWork.{work_is_counted}
 use Rattle.tao_tables.proofs.KeptFlags.{flags_are_told}
 use Rattle.tao_tables.proofs.PoolRoom.{counts_are_known, room_done}
 use Rattle.tao_record.specs.State.{AreBucketsOf, done_len}

@@ -29,10 +29,10 @@ use Rattle.tao_laws.proofs.RecentNodes.{bucket_in, recent_is_resident}
 use Rattle.tao_held.specs.Held.{held}
 use Rattle.tao_tables.specs.Tables.{TellsNodes}
 use Rattle.tao_tables.specs.Positions.{TellsPositions}
-use Rattle.tao_tables.specs.Counted.{CountsWork}
+use Rattle.tao_laws.specs.Counted.{CountsWork}
 use Rattle.tao_tables.specs.WriteBacks.{IsRecentList, AreStamped, TellsWrites}
 use Rattle.tao_tables.specs.Pools.{Pools, HasPools, KeepsPools, AreCounts, IssuesInRoom}
-use Rattle.tao_tables.proofs.CountedWork.{work_is_counted}
+use Rattle.tao_laws.proofs.CountedWork.{work_is_counted}
 use Rattle.tao_tables.proofs.KeptAnswers.{served_else}
 use Rattle.tao_tables.proofs.KeptFlags.{flags_are_told}
 use Rattle.tao_tables.proofs.KeptRows.{rows_are_told, positions_are_told}

@@ -4,9 +4,9 @@ use Rattle.tao_base.specs.declared.session.Event.{Event}
 use Rattle.tao_base.specs.Session.{Opening, History}
 use Rattle.tao_base.specs.Limits.{session_limit}
 use Rattle.tao_model.specs.Events.{arrived, dones, issues, acks}
-use Rattle.tao_tables.specs.Counted.{CountsWork}
+use Rattle.tao_laws.specs.Counted.{CountsWork}
 use Rattle.tao_tables.specs.Pools.{Pools, HasPools, KeepsPools, wanted}
-use Rattle.tao_tables.proofs.CountedWork.{work_is_counted}
+use Rattle.tao_laws.proofs.CountedWork.{work_is_counted}
 use Rattle.tao_tables.proofs.PoolRoom.{room_grows, room_reserve}
 use Rattle.tao_record.specs.State.{RecordState}
 use Rattle.tao_requests.specs.State.{RequestsState}

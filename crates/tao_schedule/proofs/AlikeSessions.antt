@@ -26,7 +26,8 @@ use Rattle.tao_text.specs.Breaks.{is_arrival}
 use Rattle.tao_schedule.specs.Moves.{Move, Arrives, Serves, Completes, Applies, Acknowledges, nodes_issued, seen, is_served, is_applied}
 use Rattle.tao_schedule.specs.Schedules.{Goes, IsSchedule, GoOn, TakesIn}
 use Rattle.tao_schedule.specs.Steps.{is_misplaced, is_full, moves_of, rest_of, seen_step, asked_behind, IsPart, AreParts, IsStep, ArePlayed}
-use Rattle.tao_schedule.specs.Alike.{IsSession, SameLeaves, AreAlike, AlikeSteps, AlikeTests, TestsNeedNoOp, StepGoesOn, PlayedIsAllowed, AlikeGoOn, OneSchedule, PlayedFront, MisplacedStays}
+use Rattle.tao_schedule.specs.Alike.{IsSession, AreAlike, AlikeSteps, AlikeTests, TestsNeedNoOp, StepGoesOn, PlayedIsAllowed, AlikeGoOn, OneSchedule, PlayedFront, MisplacedStays}
+use Rattle.tao_laws.specs.TwoPlays.{LeavesAgree}
 use Rattle.tao_schedule.proofs.ServerVersions.{under_parts}
 use Rattle.tao_schedule.proofs.ToldEvents.{bare, arrived_bare, dones_bare, issues_bare, done_bare, acked_bare, steps_bare, told, goes_lawful, bare_is_told, SeenSame, seen_told, served_seen, applied_seen, nodes_again, nodes_are_again, issued_has}
 
@@ -64,7 +65,7 @@ pub alike_steps : AlikeSteps
 alike_steps o ms es other ns others s t a = (seen_facts o ms es other ns others s t a.shape a.moves).steps
 
 pub nodes_same : (o : Opening) (es : List Event) (other : Opening) (others : List Event) (v : ℕ) → FollowsLawfully o es → FollowsLawfully other others → o.shape ≡ other.shape
-    → SeenSame es others → SameLeaves o es other others → nodes_issued es v ≡ nodes_issued others v
+    → SeenSame es others → LeavesAgree o es other others → nodes_issued es v ≡ nodes_issued others v
 nodes_same o es other others v f g shape h leaves =
     nodes_are_again es v
     ∙ ap nodes_again (again_is o es (fetched_leaf o es) v f (λ i there. refl) ∙ ap (λ s. told_again s (fetched_leaf o es) (steps_of es) v) shape
@@ -451,7 +452,7 @@ asked_count word es (What.Put version bucket) = omega arith
 asked_count word es (What.Ack version) = omega arith
 
 pub leaves_behind : (o : Opening) (es now : List Event) (other : Opening) (others thus : List Event) → IsQuiet es now → IsQuiet others thus → FollowsLawfully o now → FollowsLawfully other thus
-    → arrived es ≡ arrived others → SameLeaves o es other others → SameLeaves o now other thus
+    → arrived es ≡ arrived others → LeavesAgree o es other others → LeavesAgree o now other thus
 leaves_behind o es now other others thus q r f d as_many leaves i there =
     let known : i < arrived es = let same = as_many_arrived es now q in omega arith in
     (keeps_more o q.added es now q.split (earlier_follows o q.added es (subst (FollowsLawfully o) q.split f)) i known).1
@@ -480,7 +481,7 @@ played_is_allowed o word ms es what later now g = (part_placed o word ms es what
 -- ---- two sessions go on
 
 pub back_leaves : (o : Opening) (es now : List Event) (other : Opening) (others thus : List Event) → SeenSame es others → Keeps o es now → Keeps other others thus
-    → SameLeaves o now other thus → SameLeaves o es other others
+    → LeavesAgree o now other thus → LeavesAgree o es other others
 back_leaves o es now other others thus h k l leaves i there =
     let first = k i there in
     let as_many = h.arrived in
@@ -510,7 +511,7 @@ part_alike o word ms es what later now other words ns others which newer thus s 
 pub parts_alike : (o : Opening) (word : ℕ → ℕ) (ms : List Move) (es : List Event) (parts : List What) (later : List Move) (now : List Event)
     (other : Opening) (words : ℕ → ℕ) (ns : List Move) (others : List Event) (newer : List Move) (thus : List Event)
     → IsSchedule o ms es → IsSchedule other ns others → FollowsLawfully o now → FollowsLawfully other thus → o.shape ≡ other.shape → map seen ms ≡ map seen ns
-    → SameLeaves o now other thus → AreParts o word ms es parts later now → AreParts other words ns others parts newer thus → map seen later ≡ map seen newer
+    → LeavesAgree o now other thus → AreParts o word ms es parts later now → AreParts other words ns others parts newer thus → map seen later ≡ map seen newer
 unfolding AreParts
 parts_alike o word ms es [] later now other words ns others newer thus s t f d shape moves leaves g k = ap (map seen) g.0 ∙ moves ∙ sym (ap (map seen) k.0)
 parts_alike o word ms es (what ∷ rest) later now other words ns others newer thus s t f d shape moves leaves g k =
@@ -519,7 +520,7 @@ parts_alike o word ms es (what ∷ rest) later now other words ns others newer t
     let one : IsSession o ms es = record { schedule = s; follows = part_lawful o word ms es what g.0 g.1 g.2 f_next } in
     let two : IsSession other ns others = record { schedule = t; follows = part_lawful other words ns others what k.0 k.1 k.2 d_next } in
     let h = seen_facts o ms es other ns others one two shape moves in
-    let here : SameLeaves o es other others = back_leaves o es now other others thus h
+    let here : LeavesAgree o es other others = back_leaves o es now other others thus h
     (keeps_both o es g.1 now (part_keep o word ms es what g.0 g.1 g.2 f_next) (parts_keep o word g.0 g.1 rest later now g.3 f))
     (keeps_both other others k.1 thus (part_keep other words ns others what k.0 k.1 k.2 d_next) (parts_keep other words k.0 k.1 rest newer thus k.3 d)) leaves in
     let alike : AreAlike o ms es other ns others = record { shape = shape; leaves = here; moves = moves } in
@@ -531,7 +532,7 @@ parts_alike o word ms es (what ∷ rest) later now other words ns others newer t
 step_alike : (o : Opening) (word : ℕ → ℕ) (ms : List Move) (es : List Event) (what : What) (rest : List What) (later : List Move) (now : List Event)
     (other : Opening) (words : ℕ → ℕ) (ns : List Move) (others : List Event) (which : What) (newer : List Move) (thus : List Event)
     → IsSession o ms es → IsSession other ns others → FollowsLawfully o now → FollowsLawfully other thus → AreAlike o ms es other ns others → seen_step what ≡ seen_step which
-    → SameLeaves o now other thus → AreParts o word ms es (what ∷ rest) later now → AreParts other words ns others (which ∷ rest) newer thus → map seen later ≡ map seen newer
+    → LeavesAgree o now other thus → AreParts o word ms es (what ∷ rest) later now → AreParts other words ns others (which ∷ rest) newer thus → map seen later ≡ map seen newer
 unfolding AreParts
 step_alike o word ms es what rest later now other words ns others which newer thus s t f d a same leaves g k =
     parts_alike o word g.0 g.1 rest later now other words k.0 k.1 newer thus (part_schedule o word ms es what g.0 g.1 s.schedule g.2)
@@ -543,7 +544,7 @@ leaves_go_on : (o : Opening) (word : ℕ → ℕ) (ms : List Move) (es : List Ev
     (other : Opening) (words : ℕ → ℕ) (ns : List Move) (others : List Event) (which : What) (newer : List Move) (thus : List Event)
     → IsSchedule o ms es → IsSchedule other ns others → FollowsLawfully o now → FollowsLawfully other thus
     → AreAlike o ms es other ns others → seen_step what ≡ seen_step which → IsStep o word ms es what later now → IsStep other words ns others which newer thus
-    → SameLeaves o now other thus → AreAlike o later now other newer thus
+    → LeavesAgree o now other thus → AreAlike o later now other newer thus
 unfolding IsStep
 leaves_go_on o word ms es what later now other words ns others which newer thus s t f d a same g k leaves =
     let one : IsSession o ms es = record { schedule = s; follows = parts_lawful o word ms es (what ∷ rest_of o es what) later now g f } in

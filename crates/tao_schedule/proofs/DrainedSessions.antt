@@ -1,25 +1,27 @@
 -- The drain of a session. Moves and events are newest first.
-use Rattle.std.proofs.Common.{◌≡◌, ℕ, ◌+◌, ◌<◌, ◌≤◌, Bool, true, false, not, ◌&&◌, ◌||◌, List, [], ◌∷◌, ◌++◌, map, filter, length, None, refl, sym, ap, ◌∙◌, subst, arith, inl, inr, ◌⊎◌, nat_eq, nat_lt, nat_le}
+use Rattle.std.proofs.Common.{◌≡◌, ℕ, ◌+◌, ◌<◌, ◌≤◌, Bool, true, false, not, ◌&&◌, List, [], ◌∷◌, ◌++◌, map, filter, length, None, refl, sym, ap, ◌∙◌, subst, arith, inl, inr, ◌⊎◌, nat_eq, nat_lt, nat_le}
 use Rattle.std.specs.List.{flat_map, range_with_len}
 use Rattle.std.proofs.lemmas.Bool.{eq-eqb, eqb-true, true≢false, and_from, or_cases, or_left, or_right, false_from_ne_true, lt-ltb, le-leb, not_from_false}
 use Rattle.std.proofs.lemmas.List.Elements.{filter_agree}
 use Rattle.tao_base.specs.declared.session.Event.{Event}
-use Rattle.tao_base.specs.declared.session.Event.TheVariants.{Arrive, Done, Issue, Acked, Fault}
+use Rattle.tao_base.specs.declared.session.Event.TheVariants.{Done, Issue, Acked}
 use Rattle.tao_base.specs.declared.storage.Bucket.{Bucket}
 use Rattle.tao_base.specs.Session.{Opening}
-use Rattle.tao_model.specs.Events.{arrived, dones, issues, acks, is_done, is_acked, is_under_way, is_outstanding}
+use Rattle.tao_model.specs.Events.{arrived, issues, acks, is_done, is_acked, is_under_way, is_outstanding}
 use Rattle.tao_base.specs.Tree.{path}
 use Rattle.tao_model.specs.Requests.{fetched_leaf}
 use Rattle.tao_model.specs.Lawful.{FollowsLawfully}
 use Rattle.tao_model.proofs.FallingPaths.{has}
 use Rattle.tao_model.proofs.LawfulToWhole.{done_kept}
-use Rattle.tao_laws.proofs.Listings.{HasOnce, has_filter, has_range, length_listing}
+use Rattle.tao_laws.proofs.CountedWork.{dones_full}
+use Rattle.tao_laws.proofs.Listings.{has_filter, has_range}
 use Rattle.tao_text.specs.declared.script.What.{What}
 use Rattle.tao_schedule.specs.Moves.{Move, Applies, Acknowledges, nodes_issued, seen, is_served}
 use Rattle.tao_schedule.specs.Schedules.{Goes, IsSchedule, GoOn}
 use Rattle.tao_schedule.specs.Steps.{moves_of, IsPart, AreParts}
-use Rattle.tao_schedule.specs.Alike.{SameLeaves, AreAlike}
-use Rattle.tao_schedule.specs.Laws.{IsAllAcked}
+use Rattle.tao_schedule.specs.Alike.{AreAlike}
+use Rattle.tao_laws.specs.TwoPlays.{LeavesAgree}
+use Rattle.tao_laws.specs.Counted.{IsAllAcked}
 use Rattle.tao_schedule.specs.Drains.{drain_parts, outstanding, again_moves, AreSentAgain, AreDrained, DrainGoesOn, DrainsAlike, DrainEnds}
 use Rattle.tao_schedule.proofs.ServerVersions.{under_parts, under_from}
 use Rattle.tao_schedule.proofs.ToldEvents.{SeenSame}
@@ -136,7 +138,7 @@ drains_alike o ms es again later now other ns others too newer thus s t f d a g 
     h = seen_facts o ms es other ns others (record { schedule = s; follows = parts_lawful o (λ i. 0) ms es (drain_parts es) g.middle g.between g.fetched f_between })
         (record { schedule = t; follows = parts_lawful other (λ i. 0) ns others (drain_parts others) k.middle k.between k.fetched d_between }) a.shape a.moves
 
-    leaves : SameLeaves o g.between other k.between
+    leaves : LeavesAgree o g.between other k.between
     leaves = leaves_behind o es g.between other others k.between (parts_are_quiet o (λ i. 0) ms es (drain_parts es) g.middle g.between (parts_none es) g.fetched)
         (parts_are_quiet other (λ i. 0) ns others (drain_parts others) k.middle k.between (parts_none others) k.fetched) f_between d_between h.arrived a.leaves
 
@@ -157,54 +159,6 @@ drains_alike o ms es again later now other ns others too newer thus s t f d a g 
     versions = g.versions ∙ outstanding_list g.between k.between between ∙ sym k.versions
 
 -- ---- all arrivals are done
-
-abbrev pub done_list : List Event → List ℕ
-done_list [] = []
-done_list (Arrive client op word ∷ es) = done_list es
-done_list (Done arrival taken ∷ es) = arrival ∷ done_list es
-done_list (Issue version nonce buckets ∷ es) = done_list es
-done_list (Acked version ∷ es) = done_list es
-done_list (Fault cause ∷ es) = done_list es
-
-done_has : (es : List Event) (i : ℕ) → is_done es i ≡ has i (done_list es)
-done_has [] i = refl
-done_has (Arrive client op word ∷ es) i = done_has es i
-done_has (Done arrival taken ∷ es) i = ap (λ t. nat_eq arrival i || t) (done_has es i)
-done_has (Issue version nonce buckets ∷ es) i = done_has es i
-done_has (Acked version ∷ es) i = done_has es i
-done_has (Fault cause ∷ es) i = done_has es i
-
-pub done_once : (o : Opening) (es : List Event) → FollowsLawfully o es → HasOnce (done_list es)
-done_once o [] f = tt
-done_once o (Arrive client op word ∷ es) f = done_once o es f.0
-done_once o (Done arrival taken ∷ es) f = (sym (done_has es arrival) ∙ f.2.1.under_way, done_once o es f.0)
-done_once o (Issue version nonce buckets ∷ es) f = done_once o es f.0
-done_once o (Acked version ∷ es) f = done_once o es f.0
-done_once o (Fault cause ∷ es) f = done_once o es f.0
-
-pub done_there : (o : Opening) (es : List Event) (i : ℕ) → FollowsLawfully o es → has i (done_list es) ≡ true → i < arrived es
-done_there o [] i f h = absurd (true≢false (sym h))
-done_there o (Arrive client op word ∷ es) i f h = let below = done_there o es i f.0 h in omega arith
-done_there o (Done arrival taken ∷ es) i f h = either (or_cases (nat_eq arrival i) (has i (done_list es)) h) (λ later. done_there o es i f.0 later)
-  where
-    either : (nat_eq arrival i ≡ true) ⊎ (has i (done_list es) ≡ true) → (has i (done_list es) ≡ true → i < arrived es) → i < arrived es
-    either (inl now) ih = let same : arrival ≡ i = eqb-true arrival i now in let low = f.2.1.arrived in omega arith
-    either (inr later) ih = ih later
-done_there o (Issue version nonce buckets ∷ es) i f h = done_there o es i f.0 h
-done_there o (Acked version ∷ es) i f h = done_there o es i f.0 h
-done_there o (Fault cause ∷ es) i f h = done_there o es i f.0 h
-
-pub done_long : (es : List Event) → length (done_list es) ≡ dones es
-done_long [] = refl
-done_long (Arrive client op word ∷ es) = done_long es
-done_long (Done arrival taken ∷ es) = let rest = done_long es in omega arith
-done_long (Issue version nonce buckets ∷ es) = done_long es
-done_long (Acked version ∷ es) = done_long es
-done_long (Fault cause ∷ es) = done_long es
-
-dones_are_arrivals : (o : Opening) (es : List Event) → FollowsLawfully o es → ((i : ℕ) → i < arrived es → is_done es i ≡ true) → dones es ≡ arrived es
-dones_are_arrivals o es f all =
-    sym (done_long es) ∙ length_listing (arrived es) (done_list es) (done_once o es f) (λ w h. done_there o es w f h) (λ w low. sym (done_has es w) ∙ all w low)
 
 done_stays : (added es : List Event) (i : ℕ) → is_done es i ≡ true → is_done (added ++ es) i ≡ true
 done_stays [] es i h = h
@@ -330,7 +284,7 @@ drain_ends o ms es again later now f g = record {
       let as_many = as_many_arrived es now quiet in
       let low = parts.0 in
       true≢false (sym (finished i (omega arith)) ∙ parts.1));
-  all_done = dones_are_arrivals o now f (λ i there. let as_many = as_many_arrived es now quiet in finished i (omega arith));
+  all_done = dones_full o now f (λ i there. let as_many = as_many_arrived es now quiet in finished i (omega arith));
   acked = all_acked o g.middle g.between later now (subst (λ l. AreSentAgain o g.middle g.between l later now) g.versions g.sent);
   acks = sent_acks o g.middle g.between again later now g.sent ∙ ap (λ n. n + length again) (between_acks o (λ i. 0) ms es g.middle g.between g.fetched);
 }

@@ -6,5 +6,4 @@ pub mod ServerVersions
 pub mod ToldAgain
 pub mod ToldEvents
 pub mod WorkedMoves
-pub mod WrittenVersions
 pub mod TwinScripts

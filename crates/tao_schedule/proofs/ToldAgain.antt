@@ -1,6 +1,5 @@
 -- A session replayed with other operations: the second session plays it. Events, moves and steps are newest first.
-use Rattle.std.proofs.Common.{◌≡◌, ℕ, false, ◌+◌, ◌-◌, ◌<◌, ◌≤◌, not, cond, List, [], ◌∷◌, ◌++◌, map, filter, reverse, slice_index, refl, sym, ap, ◌∙◌, subst, arith, inl, inr, ◌⊎◌, nat_eq}
-use Rattle.std.specs.List.{list_any, position_or_len, range_with_len}
+use Rattle.std.proofs.Common.{◌≡◌, ℕ, false, ◌+◌, ◌-◌, ◌<◌, ◌≤◌, cond, List, [], ◌∷◌, ◌++◌, map, reverse, refl, sym, ap, ◌∙◌, subst, arith, inl, inr, ◌⊎◌}
 use Rattle.std.proofs.lemmas.Bool.{cases_lt, eq-eqb, lt-ltb, le-ltb}
 use Rattle.std.proofs.lemmas.List.{reverse-reverse, append_assoc}
 use Rattle.tao_base.specs.declared.calls.Op.{Op}
@@ -10,80 +9,29 @@ use Rattle.tao_base.specs.Session.{Opening, History}
 use Rattle.tao_base.specs.Tree.{leaf_of}
 use Rattle.tao_model.specs.Events.{arrived, word_at}
 use Rattle.tao_model.specs.Requests.{fetched_leaf, word_used}
-use Rattle.tao_model.specs.Replies.{op_of, ops}
 use Rattle.tao_model.specs.Lawful.{FollowsLawfully}
-use Rattle.tao_model.specs.Shapes.{Step, asks, takes_in, writes, acknowledges, steps_of, IsOneShape, HasMovedWords, used_places, all_places, twin_permutation}
+use Rattle.tao_model.specs.Shapes.{steps_of, IsOneShape, HasMovedWords, twin_permutation}
 use Rattle.tao_model.proofs.Stays.{used_stays, place_stays}
 use Rattle.tao_model.proofs.Places.{arrived_grows, place_stays_later, stays_later}
 use Rattle.tao_model.proofs.LawfulToWhole.{earlier_follows}
 use Rattle.tao_laws.specs.TapeWords.{AreInRange}
-use Rattle.tao_laws.specs.TwoPlays.{SameLeaves as PlaysSameLeaves}
+use Rattle.tao_laws.specs.TwoPlays.{LeavesAgree}
+use Rattle.tao_laws.specs.Retold.{retold, retold_place}
+use Rattle.tao_laws.proofs.RetoldPlaces.{steps_retold, arrived_retold, same_count, used_told, retold_is_twin}
 use Rattle.tao_laws.proofs.EqualPlays.{leaves_tell_traces}
 use Rattle.tao_laws.proofs.DistinctPlaces.{in_range, distinct_from, known_from}
-use Rattle.tao_laws.proofs.KindsAlone.{picked_back, same_steps, kinds_need_no_word}
+use Rattle.tao_laws.proofs.KindsAlone.{same_steps}
 use Rattle.tao_laws.proofs.Permutations.{permutation_is_one_to_one}
-use Rattle.tao_laws.proofs.ToldTraces.{asked, asked_is}
 use Rattle.tao_text.specs.declared.script.What.{What}
 use Rattle.tao_text.specs.Breaks.{is_arrival}
 use Rattle.tao_schedule.specs.Moves.{Move, seen}
 use Rattle.tao_schedule.specs.Steps.{is_misplaced, is_full, seen_step, asked_behind, IsStep, ArePlayed}
 use Rattle.tao_schedule.specs.Alike.{IsSession, AreAlike}
-use Rattle.tao_schedule.specs.Twins.{retold, retold_place, IsTwinTape, IsTold, TwinLeaves, RetoldIsTwin, arrivals_in, with_op, retold_steps, TakesTape, TwinIsAlike, TwinMeetsNoFault, TwinsLookAlike}
+use Rattle.tao_schedule.specs.Twins.{IsTwinTape, IsTold, TwinLeaves, arrivals_in, with_op, retold_steps, TakesTape, TwinIsAlike, TwinMeetsNoFault, TwinsLookAlike}
 use Rattle.tao_schedule.specs.Drains.{IsDrainAlike}
 use Rattle.tao_schedule.specs.Schedules.{IsSchedule}
 use Rattle.tao_schedule.proofs.DrainedSessions.{drain_goes_on, drain_is_quiet, drains_alike}
 use Rattle.tao_schedule.proofs.AlikeSessions.{asked_front, played_front, AreQuiet, IsQuiet, quiet_arrived, as_many_arrived, step_is_quiet, step_lawful, played_schedule, alike_steps, alike_tests, alike_go_on, played_is_allowed, tests_need_no_op}
-
--- ---- what doesn't depend on the operations
-
-steps_retold : (f : ℕ → Op) (es : List Event) → steps_of (retold f es) ≡ steps_of es
-steps_retold f [] = refl
-steps_retold f (Arrive client op word ∷ es) = rw (steps_retold f es) refl
-steps_retold f (Done arrival taken ∷ es) = rw (steps_retold f es) refl
-steps_retold f (Issue version nonce buckets ∷ es) = rw (steps_retold f es) refl
-steps_retold f (Acked version ∷ es) = rw (steps_retold f es) refl
-steps_retold f (Fault cause ∷ es) = steps_retold f es
-
-arrived_retold : (f : ℕ → Op) (es : List Event) → arrived (retold f es) ≡ arrived es
-arrived_retold f es = asked_is (retold f es) ∙ ap asked (steps_retold f es) ∙ sym (asked_is es)
-
-pub same_count : (es others : List Event) → steps_of es ≡ steps_of others → arrived es ≡ arrived others
-same_count es others steps = asked_is es ∙ ap asked steps ∙ sym (asked_is others)
-
-abbrev asked_ops : (ℕ → Op) → List Step → List Op
-asked_ops f [] = []
-asked_ops f (asks client ∷ steps) = f (asked steps) ∷ asked_ops f steps
-asked_ops f (takes_in arrival ∷ steps) = asked_ops f steps
-asked_ops f (writes version ∷ steps) = asked_ops f steps
-asked_ops f (acknowledges version ∷ steps) = asked_ops f steps
-
-ops_retold : (f : ℕ → Op) (es : List Event) → ops (retold f es) ≡ asked_ops f (steps_of es)
-ops_retold f [] = refl
-ops_retold f (Arrive client op word ∷ es) = rw (asked_is es, ops_retold f es) refl
-ops_retold f (Done arrival taken ∷ es) = ops_retold f es
-ops_retold f (Issue version nonce buckets ∷ es) = ops_retold f es
-ops_retold f (Acked version ∷ es) = ops_retold f es
-ops_retold f (Fault cause ∷ es) = ops_retold f es
-
-used_by : (o : Opening) (es : List Event) (other : Opening) (others : List Event) → o.shape ≡ other.shape → steps_of es ≡ steps_of others → ops es ≡ ops others → (i : ℕ)
-    → word_used o es i ≡ word_used other others i
-used_by o es other others shape steps operations i =
-    ap (λ l. word_used o l i) (sym (reverse-reverse es))
-    ∙ (kinds_need_no_word first second (record { parameters = shape; steps = same_steps es others steps })
-    (picked_back op_of es ∙ ap reverse operations ∙ sym (picked_back op_of others))).used i
-    ∙ ap (λ l. word_used other l i) (reverse-reverse others)
-  where
-    first : History
-    first = record { opening = o; events = reverse es }
-
-    second : History
-    second = record { opening = other; events = reverse others }
-
-used_told : (f : ℕ → Op) (o : Opening) (es : List Event) (other : Opening) (others : List Event) → o.shape ≡ other.shape → steps_of es ≡ steps_of others → retold f others ≡ others → (i : ℕ)
-    → word_used o (retold f es) i ≡ word_used other others i
-used_told f o es other others shape steps told i =
-    used_by o (retold f es) other others shape (steps_retold f es ∙ steps)
-    (ops_retold f es ∙ ap (asked_ops f) steps ∙ sym (ops_retold f others) ∙ ap ops told) i
 
 -- ---- a replayed prefix
 
@@ -163,31 +111,6 @@ twin_leaves f tape o later es other others lawful t shape steps told i there =
         let as_many = same_count es others steps in
         let blocks : o.shape.n ≡ other.shape.n = ap (λ s. s.n) shape in
         omega arith
-
--- ---- the permutation
-
-map_same : (g h : ℕ → ℕ) → ((i : ℕ) → g i ≡ h i) → (xs : List ℕ) → map g xs ≡ map h xs
-map_same g h same [] = refl
-map_same g h same (x ∷ xs) = rw (same x, map_same g h same xs) refl
-
-abbrev all_at : ℕ → List ℕ → List ℕ
-all_at n l = l ++ filter (λ place. not (list_any (λ used. nat_eq used place) l)) (range_with_len 0 n)
-
-places_same : (o : Opening) (es : List Event) (other : Opening) (others : List Event) → o.shape.n ≡ other.shape.n → arrived es ≡ arrived others
-    → ((i : ℕ) → word_used o es i ≡ word_used other others i) → all_places o es ≡ all_places other others
-places_same o es other others blocks as_many used = glue used_same
-  where
-    used_same : used_places o es ≡ used_places other others
-    used_same = map_same (word_used o es) (word_used other others) used (range_with_len 0 (arrived es)) ∙ ap (λ n. map (word_used other others) (range_with_len 0 n)) as_many
-
-    glue : used_places o es ≡ used_places other others → all_places o es ≡ all_places other others
-    glue same = ap (λ l. l ++ filter (λ place. not (list_any (λ used. nat_eq used place) l)) (range_with_len 0 (o.shape.n + arrived es))) same
-        ∙ ap (λ n. all_at n (used_places other others)) (ap (λ b. b + arrived es) blocks ∙ ap (λ a. other.shape.n + a) as_many)
-
-pub retold_is_twin : RetoldIsTwin
-retold_is_twin f o es other others place shape steps told =
-    ap (λ l. slice_index l (position_or_len (λ known. nat_eq known place) (all_places o es)))
-    (sym (places_same o (retold f es) other others (ap (λ s. s.n) shape) (arrived_retold f es ∙ same_count es others steps) (used_told f o es other others shape steps told)))
 
 -- ---- the second session has the operations and the words
 
@@ -416,6 +339,6 @@ twins_look_alike f tape o word steps ms es again later now other words ns others
     one : IsOneShape first second
     one = record { parameters = shape; steps = same_steps now thus steps_same }
 
-    same : PlaysSameLeaves first second
+    same : LeavesAgree o (reverse (reverse now)) other (reverse (reverse thus))
     same = (subst (λ l. (i : ℕ) → i < arrived l → fetched_leaf o l i ≡ fetched_leaf other (reverse (reverse thus)) i) (sym (reverse-reverse now))
         (subst (λ l. (i : ℕ) → i < arrived now → fetched_leaf o now i ≡ fetched_leaf other l i) (sym (reverse-reverse thus)) alike.leaves))

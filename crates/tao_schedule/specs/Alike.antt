@@ -1,11 +1,10 @@
 -- Sessions that look alike to the server, whatever their operations. Moves and events are newest first.
-use Rattle.std.specs.Prelude.{◌≡◌, ℕ, ◌<◌, true, false, ◌||◌, List, ◌∷◌, ◌++◌, map}
+use Rattle.std.specs.Prelude.{◌≡◌, ℕ, true, false, ◌||◌, List, ◌∷◌, ◌++◌, map}
 use Rattle.tao_base.specs.declared.session.Event.{Event}
 use Rattle.tao_base.specs.Session.{Opening}
-use Rattle.tao_model.specs.Events.{arrived}
-use Rattle.tao_model.specs.Requests.{fetched_leaf}
 use Rattle.tao_model.specs.Shapes.{steps_of}
 use Rattle.tao_model.specs.Lawful.{FollowsLawfully}
+use Rattle.tao_laws.specs.TwoPlays.{LeavesAgree}
 use Rattle.tao_text.specs.declared.script.What.{What}
 use Rattle.tao_schedule.specs.Moves.{Move, seen}
 use Rattle.tao_schedule.specs.Schedules.{IsSchedule}
@@ -16,14 +15,10 @@ pub record IsSession (o : Opening) (ms : List Move) (es : List Event) : Type 0 w
   pub schedule : IsSchedule o ms es
   pub follows : FollowsLawfully o es
 
--- the arrivals of both fetch the same leaves
-abbrev pub SameLeaves : Opening → List Event → Opening → List Event → Type 0
-SameLeaves o es other others = (i : ℕ) → i < arrived es → fetched_leaf o es i ≡ fetched_leaf other others i
-
 -- equal parameters and leaves, and equal moves except for the operations and words of arrivals
 pub record AreAlike (o : Opening) (ms : List Move) (es : List Event) (other : Opening) (ns : List Move) (others : List Event) : Type 0 where
   pub shape : o.shape ≡ other.shape
-  pub leaves : SameLeaves o es other others
+  pub leaves : LeavesAgree o es other others
   pub moves : map seen ms ≡ map seen ns
 
 -- Sessions that are alike have the same steps.
@@ -64,7 +59,7 @@ AlikeGoOn = (o : Opening) (word : ℕ → ℕ) (ms : List Move) (es : List Event
     (other : Opening) (words : ℕ → ℕ) (ns : List Move) (others : List Event) (which : What) (newer : List Move) (thus : List Event)
     → IsSchedule o ms es → IsSchedule other ns others → FollowsLawfully o now → FollowsLawfully other thus
     → AreAlike o ms es other ns others → seen_step what ≡ seen_step which → IsStep o word ms es what later now → IsStep other words ns others which newer thus
-    → SameLeaves o (asked_behind word es what) other (asked_behind words others which) → AreAlike o later now other newer thus
+    → LeavesAgree o (asked_behind word es what) other (asked_behind words others which) → AreAlike o later now other newer thus
 
 -- One script has one schedule: two sessions of the same steps and words have the same moves and are alike.
 abbrev pub OneSchedule : Type 0

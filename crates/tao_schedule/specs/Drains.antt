@@ -11,7 +11,7 @@ use Rattle.tao_schedule.specs.Moves.{Move, Applies, Acknowledges, nodes_issued}
 use Rattle.tao_schedule.specs.Schedules.{IsSchedule, GoOn}
 use Rattle.tao_schedule.specs.Steps.{AreParts}
 use Rattle.tao_schedule.specs.Alike.{AreAlike}
-use Rattle.tao_schedule.specs.Laws.{IsAllAcked}
+use Rattle.tao_laws.specs.Counted.{IsAllAcked}
 
 -- for each arrival under way, rising: all its reads and its Done
 unfoldable pub drain_parts : List Event → List What

@@ -4,11 +4,12 @@ use Rattle.tao_base.specs.declared.session.Event.{Event}
 use Rattle.tao_base.specs.declared.session.Event.TheVariants.{Acked}
 use Rattle.tao_base.specs.Limits.{Shape, session_limit}
 use Rattle.tao_base.specs.Session.{Opening}
-use Rattle.tao_model.specs.Events.{arrived, issues, is_acked, is_under_way}
+use Rattle.tao_model.specs.Events.{arrived, is_under_way}
 use Rattle.tao_model.specs.Requests.{fetches}
 use Rattle.tao_model.specs.Residence.{is_resident, newest_version, newest_write}
 use Rattle.tao_model.specs.LookBacks.{written_at}
 use Rattle.tao_model.specs.Lawful.{FollowsLawfully}
+use Rattle.tao_laws.specs.Counted.{IsAllAcked}
 use Rattle.tao_text.specs.declared.script.What.{What}
 use Rattle.tao_schedule.specs.Moves.{Move, Acknowledges, server_version, served_version, is_served}
 use Rattle.tao_schedule.specs.Schedules.{IsSchedule, Goes, GoOn}
@@ -25,10 +26,6 @@ pub record ServerInStep (o : Opening) (ms : List Move) (es : List Event) (node :
 -- In a lawful schedule the server stays in step at every node.
 abbrev pub StaysInStep : Type 0
 StaysInStep = (o : Opening) (ms : List Move) (es : List Event) (node : ℕ) → IsSchedule o ms es → FollowsLawfully o es → ServerInStep o ms es node
-
--- all write-backs are acknowledged
-abbrev pub IsAllAcked : List Event → Type 0
-IsAllAcked es = (v : ℕ) → 0 < v → v ≤ issues es → is_acked es v ≡ true
 
 -- Once all write-backs are acknowledged, the server has the latest version of every node, whether the proxy holds it or not.
 abbrev pub ServerIsNewest : Type 0

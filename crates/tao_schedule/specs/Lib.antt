@@ -6,4 +6,3 @@ pub mod Laws
 pub mod Drains
 pub mod Twins
 pub mod Worked
-pub mod Written

@@ -2,32 +2,19 @@
 use Rattle.std.specs.Prelude.{◌≡◌, ℕ, ◌+◌, ◌<◌, false, if◌then◌else◌, List, [], ◌∷◌, ◌++◌, reverse, take, length, slice_index, slice_index_or}
 use Rattle.tao_base.specs.declared.calls.Op.{Op}
 use Rattle.tao_base.specs.declared.session.Event.{Event}
-use Rattle.tao_base.specs.declared.session.Event.TheVariants.{Arrive, Done, Issue, Acked, Fault}
 use Rattle.tao_base.specs.Session.{Opening}
 use Rattle.tao_model.specs.Events.{arrived, word_at}
-use Rattle.tao_model.specs.Shapes.{steps_of, twin_permutation, IsOneShape, HasMovedWords}
+use Rattle.tao_model.specs.Shapes.{steps_of, IsOneShape, HasMovedWords}
 use Rattle.tao_model.specs.Lawful.{FollowsLawfully}
-use Rattle.tao_laws.specs.TwoPlays.{HasEqualTraces}
+use Rattle.tao_laws.specs.TwoPlays.{LeavesAgree, HasEqualTraces}
+use Rattle.tao_laws.specs.Retold.{retold, retold_place}
 use Rattle.tao_laws.specs.TapeWords.{AreInRange}
 use Rattle.tao_text.specs.declared.script.What.{What}
 use Rattle.tao_text.specs.Breaks.{is_arrival}
 use Rattle.tao_schedule.specs.Moves.{Move}
 use Rattle.tao_schedule.specs.Steps.{is_misplaced, is_full, ArePlayed}
 use Rattle.tao_schedule.specs.Drains.{AreDrained}
-use Rattle.tao_schedule.specs.Alike.{SameLeaves, AreAlike}
-
--- the events with another operation for each arrival
-abbrev pub retold : (ℕ → Op) → List Event → List Event
-retold asks [] = []
-retold asks (Arrive client op word ∷ es) = Arrive client (asks (arrived es)) word ∷ retold asks es
-retold asks (Done arrival taken ∷ es) = Done arrival taken ∷ retold asks es
-retold asks (Issue version nonce buckets ∷ es) = Issue version nonce buckets ∷ retold asks es
-retold asks (Acked version ∷ es) = Acked version ∷ retold asks es
-retold asks (Fault cause ∷ es) = Fault cause ∷ retold asks es
-
--- where a place of the tape goes in the replay
-abbrev pub retold_place : (ℕ → Op) → Opening → List Event → ℕ → ℕ
-retold_place asks o es place = twin_permutation o es o (retold asks es) place
+use Rattle.tao_schedule.specs.Alike.{AreAlike}
 
 -- the tape of the replay: the operations are in range, and each word is where it goes
 pub record IsTwinTape (asks : ℕ → Op) (tape : ℕ → ℕ) (o : Opening) (es : List Event) : Type 0 where
@@ -43,13 +30,7 @@ pub record IsTold (asks : ℕ → Op) (tape : ℕ → ℕ) (o : Opening) (es : L
 abbrev pub TwinLeaves : Type 0
 TwinLeaves = (asks : ℕ → Op) (tape : ℕ → ℕ) (o : Opening) (later es : List Event) (other : Opening) (others : List Event)
     → FollowsLawfully o (later ++ es) → IsTwinTape asks tape o (later ++ es) → o.shape ≡ other.shape → steps_of es ≡ steps_of others → IsTold asks tape other others
-    → SameLeaves o es other others
-
--- The permutation that made the tape is that of the two plays, once the second has played all steps.
-abbrev pub RetoldIsTwin : Type 0
-RetoldIsTwin = (asks : ℕ → Op) (o : Opening) (es : List Event) (other : Opening) (others : List Event) (place : ℕ)
-    → o.shape ≡ other.shape → steps_of es ≡ steps_of others → retold asks others ≡ others
-    → twin_permutation o es other others place ≡ retold_place asks o es place
+    → LeavesAgree o es other others
 
 -- how many arrivals these steps have
 abbrev pub arrivals_in : List What → ℕ

@@ -6,7 +6,6 @@ mod drains;
 mod schedules;
 mod twins;
 mod worked;
-mod written;
 
 pub use drains::{drain_ends, drain_goes_on, drains_alike};
 pub use schedules::{
@@ -15,8 +14,7 @@ pub use schedules::{
     step_goes_on, tests_need_no_op,
 };
 pub use twins::{
-    retold_is_twin, twin_is_alike, twin_leaves, twin_meets_no_fault, twin_script_is_allowed,
+    twin_is_alike, twin_leaves, twin_meets_no_fault, twin_script_is_allowed,
     twins_look_alike,
 };
 pub use worked::{worked_schedule, worked_steps};
-pub use written::{dones_within, issue_is_written, issued_is_written, places_move, written_stays};

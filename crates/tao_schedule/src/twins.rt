@@ -1,14 +1,9 @@
 //! Laws: a second play of a schedule with other operations.
-ghost use Rattle.tao_schedule.specs.Twins.{TwinLeaves, RetoldIsTwin, TwinIsAlike, TwinMeetsNoFault, TwinScriptIsAllowed, TwinsLookAlike};
+ghost use Rattle.tao_schedule.specs.Twins.{TwinLeaves, TwinIsAlike, TwinMeetsNoFault, TwinScriptIsAllowed, TwinsLookAlike};
 
 /// The second play fetches the same leaves as the first. So both look the same.
 pub fn twin_leaves()
     ensures { TwinLeaves }
-{}
-
-/// The permutation can be computed before the second play begins.
-pub fn retold_is_twin()
-    ensures { RetoldIsTwin }
 {}
 
 /// The second play is alike to the first as far as it has come.

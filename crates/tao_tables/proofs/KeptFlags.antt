@@ -19,7 +19,7 @@ use Rattle.tao_sequence.specs.Release.{is_done_in}
 use Rattle.tao_tables.specs.Flags.{TellsFlags, IsFree, FlagsAreTold, FlagsAtStart, ReleasedByFlags, AckedByFlags}
 use Rattle.tao_tables.specs.Tags.{TellsTags, ReplacesTags, TagsAreTold, TagsAtStart}
 use Rattle.tao_tables.proofs.WrittenTables.{newest_write_is}
-use Rattle.tao_tables.proofs.CountedWork.{acked_known, arrived_within, work_from, shifted}
+use Rattle.tao_laws.proofs.CountedWork.{acked_known, arrived_within, work_from, shifted}
 
 -- ---- flags
 

@@ -21,7 +21,7 @@ use Rattle.tao_model.proofs.LawfulToWhole.{paced}
 use Rattle.tao_laws.proofs.Listings.{has_filter, has_range, range_has}
 use Rattle.tao_laws.proofs.RecentNodes.{touch_within, recent_from, leaf_low, fetched_in_tree}
 use Rattle.tao_tables.specs.WriteBacks.{IsIssueAt, TellsWrites, PutsPath, WritesAreTold, WritesAtStart, RecentIsShort, IssueMayFollow}
-use Rattle.tao_tables.proofs.CountedWork.{owed_once}
+use Rattle.tao_laws.proofs.CountedWork.{owed_once}
 use Rattle.tao_tables.proofs.RisingLists.{one_rising_list, part_rises, path_rises}
 
 -- ---- the recent nodes

@@ -1,4 +1,3 @@
-pub mod CountedWork
 pub mod KeptAnswers
 pub mod KeptFlags
 pub mod KeptRows

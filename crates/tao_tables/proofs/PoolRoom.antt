@@ -4,7 +4,7 @@ use Rattle.std.proofs.lemmas.Bool.{cases_lt}
 use Rattle.std.proofs.lemmas.Grind.{div_ceil_times}
 use Rattle.tao_base.specs.Limits.{Shape}
 use Rattle.tao_model.proofs.LawfulToWhole.{follows_opening}
-use Rattle.tao_tables.proofs.CountedWork.{work_from, acks_from}
+use Rattle.tao_laws.proofs.CountedWork.{work_from, acks_from}
 use Rattle.tao_tables.specs.Pools.{one_if, due, AreCounts, CountsAreKnown, RoomGrows, RoomAtStart, RoomReserve, RoomArrive, RoomDone, RoomIssue, RoomAcked}
 
 -- at least as many write-backs are due as periods are full

@@ -1,5 +1,4 @@
 pub mod Answers
-pub mod Counted
 pub mod Flags
 pub mod Pools
 pub mod Positions

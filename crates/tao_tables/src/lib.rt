@@ -3,7 +3,6 @@
 #![tactic(auto)]
 
 mod answers;
-mod counted;
 mod flags;
 mod nodes;
 mod pools;
@@ -17,7 +16,6 @@ mod write_backs;
 mod writes;
 
 pub use answers::served_real;
-pub use counted::{acks_are_counted, work_is_counted};
 pub use flags::{acked_by_flags, flags_are_told, flags_at_start, released_by_flags};
 pub use nodes::{
     cover_is_bounded, tells_acked, tells_arrive, tells_done, tells_fault, tells_issue, tells_start,

@@ -1,5 +1,0 @@
-use Rattle.tao_tables.proofs.CountedWork.{acks_are_counted}
-use Rattle.tao_tables.proofs.counted.acks_are_counted.Goals as goal
-
-pub returns : goal.returns
-returns c = acks_are_counted

@@ -1,5 +1,0 @@
-use Rattle.tao_tables.proofs.CountedWork.{work_is_counted}
-use Rattle.tao_tables.proofs.counted.work_is_counted.Goals as goal
-
-pub returns : goal.returns
-returns c = work_is_counted
