@@ -1,21 +1,20 @@
 -- A look-up, a put and an eviction, over the contents of the stash and all nodes.
-use Rattle.std.proofs.Common.{◌≡◌, ℕ, ◌<◌, Bool, true, false, cond, List, [], ◌∷◌, Option, Some, None, refl, sym, ap, ◌∙◌, subst, arith, inl, inr, ◌⊎◌, nat_eq}
+use Rattle.std.proofs.Common.{◌≡◌, ℕ, ◌<◌, true, false, cond, List, [], ◌∷◌, Some, None, refl, sym, ap, ◌∙◌, subst, arith, inl, inr, ◌⊎◌, nat_eq}
 use Rattle.std.specs.Option.{option_or}
 use Rattle.std.proofs.lemmas.Bool.{ne_eqb, eq-eqb, cases_eq, cases_Bool, true≢false}
 use Rattle.std.proofs.lemmas.Option.{none-some}
 use Rattle.tao_base.specs.declared.storage.Entry.{Entry}
 use Rattle.tao_base.specs.Limits.{Shape}
 use Rattle.tao_base.specs.Tree.{path, is_on_path}
-use Rattle.tao_base.specs.Buckets.{Rises}
 use Rattle.tao_model.specs.Placement.{look, first_copy, IsEvicted}
 use Rattle.tao_model.specs.FreshCopy.{OneCopy}
 use Rattle.tao_model.specs.Evictions.{LiesOnce}
 use Rattle.tao_model.proofs.FallingPaths.{has}
-use Rattle.tao_model.proofs.FirstCopies.{gathers_more}
 use Rattle.tao_model.proofs.OnePlacement.{none_either}
 use Rattle.tao_model.proofs.OneEviction.{first_copy_stays}
-use Rattle.tao_held.specs.Steps.{entry_of, put}
-use Rattle.tao_contents.specs.Moves.{FreshAlike, LookUpFinds, PutIs, PutIsFound, CountsInside, CountsOutside, FreshMayBeEvicted, PutMayBeEvicted, EvictionKeeps}
+use Rattle.tao_held.specs.Steps.{put}
+use Rattle.tao_held.proofs.AlikeContents.{put_look, put_off}
+use Rattle.tao_contents.specs.Moves.{FreshAlike, LookUpFinds, PutIsFound, CountsInside, CountsOutside, FreshMayBeEvicted, PutMayBeEvicted, EvictionKeeps}
 use Rattle.tao_contents.proofs.Looks.{inside_either, outside_is, outside, first_one, first_none, none_first}
 
 -- ---- one block
@@ -60,23 +59,6 @@ look_up_finds s at leaf value contents b below here fresh = first_one b one.node
 
     lies : (one.node ≡ 0) ⊎ (is_on_path s.l at one.node ≡ true)
     lies = let P : ℕ → Type 0 = λ p. (one.node ≡ 0) ⊎ (is_on_path s.l p one.node ≡ true) in subst P here one.lies
-
-first_counts : (t : Bool) (x : List ℕ) (o : Option (List ℕ)) → option_or (cond t (Some x) None) o ≡ cond t (Some x) o
-first_counts true x o = refl
-first_counts false x o = refl
-
-put_gathers : (contents : ℕ → List Entry) (b : ℕ) (value : List ℕ)
-    → Rises 0 (put contents b value 0) × ((c : ℕ) → look c (put contents b value 0) ≡ option_or (look c (entry_of b value ∷ [])) (look c (contents 0)))
-put_gathers contents b value = gathers_more (entry_of b value ∷ []) (contents 0) (omega arith, tt)
-
-put_look : (contents : ℕ → List Entry) (b : ℕ) (value : List ℕ) (c : ℕ) → look c (put contents b value 0) ≡ cond (nat_eq b c) (Some value) (look c (contents 0))
-put_look contents b value c = (put_gathers contents b value).1 c ∙ first_counts (nat_eq b c) value (look c (contents 0))
-
-put_off : (contents : ℕ → List Entry) (b : ℕ) (value : List ℕ) (w : ℕ) → 0 < w → put contents b value w ≡ contents w
-put_off contents b value w low = rw (ne_eqb w 0 (λ same. omega arith)) refl
-
-pub put_is : PutIs
-put_is contents b value = ((put_gathers contents b value).0, λ c. put_look contents b value c, λ w low. put_off contents b value w low)
 
 pub put_is_found : PutIsFound
 put_is_found l at contents b value =

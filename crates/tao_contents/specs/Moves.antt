@@ -1,9 +1,8 @@
 -- Laws of one look-up, one put and one eviction, over the contents of the stash and all nodes. Node 0 is the stash.
-use Rattle.std.specs.Prelude.{◌≡◌, ℕ, ◌<◌, ◌⊎◌, ◌==◌, false, if◌then◌else◌, List, Some, None}
+use Rattle.std.specs.Prelude.{◌≡◌, ℕ, ◌<◌, ◌⊎◌, false, List, Some, None}
 use Rattle.tao_base.specs.declared.storage.Entry.{Entry}
 use Rattle.tao_base.specs.Limits.{Shape}
 use Rattle.tao_base.specs.Tree.{path, is_on_path}
-use Rattle.tao_base.specs.Buckets.{Rises}
 use Rattle.tao_model.specs.Placement.{look, IsEvicted}
 use Rattle.tao_model.specs.FreshCopy.{OneCopy, FreshCopy}
 use Rattle.tao_held.specs.Steps.{found_copy, put}
@@ -18,13 +17,6 @@ FreshAlike = (s : Shape) (leaf leaf' : ℕ → ℕ) (value value' : ℕ → List
 abbrev pub LookUpFinds : Type 0
 LookUpFinds = (s : Shape) (at : ℕ) (leaf : ℕ → ℕ) (value : ℕ → List ℕ) (contents : ℕ → List Entry) (b : ℕ) → b < s.n → leaf b ≡ at
     → FreshCopy s leaf value contents → found_copy s.l at contents b ≡ Some (value b)
-
--- a put changes only the stash: it still rises, has the new value of the block, and the old values of all others
-abbrev pub PutIs : Type 0
-PutIs = (contents : ℕ → List Entry) (b : ℕ) (value : List ℕ)
-    → Rises 0 (put contents b value 0)
-    × ((c : ℕ) → look c (put contents b value 0) ≡ (if b == c then Some value else look c (contents 0)))
-    × ((w : ℕ) → 0 < w → put contents b value w ≡ contents w)
 
 -- what was put is found even if the path has an older copy
 abbrev pub PutIsFound : Type 0

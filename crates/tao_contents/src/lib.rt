@@ -20,7 +20,7 @@ pub use counting::fresh_copy_counts;
 pub use fetches::{fake_fetch_keeps, fetch_finds, real_fetch_keeps, taking_in_keeps};
 pub use final_look::{final_array, seen_is_final};
 pub use moves::{
-    eviction_keeps, fresh_alike, fresh_may_be_evicted, look_up_finds, put_is, put_is_found,
+    eviction_keeps, fresh_alike, fresh_may_be_evicted, look_up_finds, put_is_found,
     put_may_be_evicted,
 };
 pub use openings::{load_writes_fresh, opening_is_fresh};

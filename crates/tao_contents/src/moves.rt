@@ -1,5 +1,5 @@
 //! Laws: one look-up, one put, one eviction.
-ghost use Rattle.tao_contents.specs.Moves.{FreshAlike, LookUpFinds, PutIs, PutIsFound, FreshMayBeEvicted, PutMayBeEvicted, EvictionKeeps};
+ghost use Rattle.tao_contents.specs.Moves.{FreshAlike, LookUpFinds, PutIsFound, FreshMayBeEvicted, PutMayBeEvicted, EvictionKeeps};
 
 /// Fresh copy depends only on positions, values and look-ups.
 pub fn fresh_alike()
@@ -9,11 +9,6 @@ pub fn fresh_alike()
 /// The look-up finds a block's settled value if the path of its position was fetched.
 pub fn look_up_finds()
     ensures { LookUpFinds }
-{}
-
-/// A put changes only the stash, and there only the one block.
-pub fn put_is()
-    ensures { PutIs }
 {}
 
 /// What was put is found even if the path has an older copy.

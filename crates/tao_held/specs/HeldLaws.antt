@@ -19,7 +19,7 @@ use Rattle.tao_model.specs.Passes.{gather}
 use Rattle.tao_model.specs.Evictions.{evicted}
 use Rattle.tao_model.specs.Lawful.{FollowsLawfully}
 use Rattle.tao_model.specs.OneMore.{with_one_more}
-use Rattle.tao_held.specs.Steps.{entry_of}
+use Rattle.tao_held.specs.Steps.{entry_of, put}
 use Rattle.tao_held.specs.Held.{held, held_done, after_fetch, found_value, served_answer, value_since, value_between}
 
 -- How one more event changes what is held: only a Done changes entries, and an acknowledgement lets nodes go.
@@ -61,10 +61,10 @@ BetweenIsFold = (events : List Event) (blocks : List (List ℕ)) (block i k : �
 
 -- ---- contents that agree at every node
 
--- an eviction depends only on the contents and on the leaves of the gathered blocks
+-- an eviction depends only on the leaves of the gathered blocks
 abbrev pub EvictedAlike : Type 0
-EvictedAlike = (s : Shape) (path : List ℕ) (leaf leaf' : ℕ → ℕ) (old old' : ℕ → List Entry) → ((w : ℕ) → old w ≡ old' w)
-    → ((b : ℕ) → is_some (first_copy (0 ∷ path) old b) ≡ true → leaf b ≡ leaf' b) → (w : ℕ) → evicted s path leaf old w ≡ evicted s path leaf' old' w
+EvictedAlike = (s : Shape) (path : List ℕ) (leaf leaf' : ℕ → ℕ) (old : ℕ → List Entry)
+    → ((b : ℕ) → is_some (first_copy (0 ∷ path) old b) ≡ true → leaf b ≡ leaf' b) → (w : ℕ) → evicted s path leaf old w ≡ evicted s path leaf' old w
 
 -- all ids are below n
 abbrev pub AreIdsBelow : ℕ → (ℕ → List Entry) → Type 0
@@ -77,7 +77,14 @@ FetchedAlike = (real : Bool) (s : Shape) (at : ℕ) (leaf leaf' : ℕ → ℕ) (
     → AreIdsBelow s.n taken → AreIdsBelow s.n own → (real ≡ true → block < s.n)
     → (w : ℕ) → after_fetch real s at leaf resident taken own block value w ≡ after_fetch real s at leaf' resident' taken own' block value w
 
--- A list that differs in one block's value only is the old one with that value put.
+-- a put changes only the stash: it still rises, has the new value of the block, and the old values of all others
+abbrev pub PutIs : Type 0
+PutIs = (contents : ℕ → List Entry) (b : ℕ) (value : List ℕ)
+    → Rises 0 (put contents b value 0)
+    × ((c : ℕ) → look c (put contents b value 0) ≡ (if b == c then Some value else look c (contents 0)))
+    × ((w : ℕ) → 0 < w → put contents b value w ≡ contents w)
+
+-- A list in order that differs from another in one block's value only is that one with the value put.
 abbrev pub PutIsGathered : Type 0
-PutIsGathered = (b : ℕ) (value : List ℕ) (old new : List Entry) → Rises 0 old → Rises 0 new → look b new ≡ Some value
+PutIsGathered = (b : ℕ) (value : List ℕ) (old new : List Entry) → Rises 0 new → look b new ≡ Some value
     → ((c : ℕ) → (c ≡ b → ⊥) → look c new ≡ look c old) → new ≡ gather (entry_of b value ∷ []) old

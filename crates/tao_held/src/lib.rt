@@ -7,7 +7,7 @@ mod answering;
 mod holding;
 mod worked;
 
-pub use alike::{evicted_alike, fetched_alike, put_is_gathered};
+pub use alike::{evicted_alike, fetched_alike, put_is, put_is_gathered};
 pub use answering::{answers_stay, between_is_fold, found_stays, since_is_fold};
 pub use holding::{away_is_empty, held_stays};
 pub use worked::{

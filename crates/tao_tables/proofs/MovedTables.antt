@@ -1,5 +1,6 @@
 -- How one more event changes the tables. The events `es` are newest first.
 use Rattle.std.proofs.Common.{◌≡◌, ℕ, suc, ◌+◌, ◌-◌, ◌*◌, ◌<◌, Bool, true, false, not, ◌&&◌, ◌||◌, cond, List, [], ◌∷◌, reverse, All, is_some, refl, sym, ap, ◌∙◌, arith, nat_eq, nat_lt}
+use Rattle.std.proofs.Math.Path.{fun_ext}
 use Rattle.std.proofs.lemmas.Bool.{eqb-true, and_from}
 use Rattle.std.proofs.lemmas.List.Elements.{All-nil, All-head, All-tail}
 use Rattle.tao_base.specs.declared.calls.Op.{Op}
@@ -9,7 +10,7 @@ use Rattle.tao_base.specs.declared.storage.Bucket.{Bucket}
 use Rattle.tao_base.specs.declared.storage.Entry.{Entry}
 use Rattle.tao_base.specs.Limits.{Shape}
 use Rattle.tao_base.specs.Session.{Opening}
-use Rattle.tao_base.specs.Tree.{path, is_on_path}
+use Rattle.tao_base.specs.Tree.{is_on_path}
 use Rattle.tao_model.specs.Events.{arrived, dones, is_done}
 use Rattle.tao_model.specs.Requests.{is_real, fetches, fetched_leaf, position}
 use Rattle.tao_model.specs.Residence.{last_touch, bucket_of, is_issued, is_covered, is_resident}
@@ -24,7 +25,7 @@ use Rattle.tao_held.specs.Held.{held, after_fetch, found_in, block_on, value_sin
 use Rattle.tao_held.specs.HeldLaws.{AreIdsBelow}
 use Rattle.tao_laws.proofs.Counts.{count_same, count_within, count_less, any_counts}
 use Rattle.tao_held.proofs.Blocks.{real_on, on_below}
-use Rattle.tao_held.proofs.AlikeContents.{first_same, take_in_same, fetched_alike}
+use Rattle.tao_held.proofs.AlikeContents.{take_in_same, fetched_alike}
 use Rattle.tao_tables.specs.Tables.{cover_count, TellsNodes, TellsArrive, MovesTables, TellsDone, TellsIssue, TellsAcked, TellsFault, TellsStart, CoverIsBounded}
 
 -- ---- an arrival
@@ -118,9 +119,8 @@ done_contents o es i taken leaf x r r' c c' n n' t t' v tells f may ids moves w 
   where
     found : found_copy o.shape.l (fetched_leaf o es i) (take_in o.shape.l (fetched_leaf o es i) r (entries_at taken) c) (block_on es i)
         ≡ found_copy o.shape.l (fetched_leaf o es i) (take_in o.shape.l (fetched_leaf o es i) (λ u. is_resident o es u) (entries_at taken) (λ u. held o es u)) (block_on es i)
-    found = first_same (block_on es i) (take_in o.shape.l (fetched_leaf o es i) r (entries_at taken) c)
-        (take_in o.shape.l (fetched_leaf o es i) (λ u. is_resident o es u) (entries_at taken) (λ u. held o es u)) (0 ∷ path o.shape.l (fetched_leaf o es i))
-        (take_in_same o.shape.l (fetched_leaf o es i) r (λ u. is_resident o es u) (entries_at taken) c (λ u. held o es u) tells.residents tells.contents)
+    found = ap (λ contents. found_copy o.shape.l (fetched_leaf o es i) contents (block_on es i))
+        (fun_ext (take_in_same o.shape.l (fetched_leaf o es i) r (λ u. is_resident o es u) (entries_at taken) c (λ u. held o es u) tells.residents tells.contents))
 
 pub tells_done : TellsDone
 tells_done o events i taken leaf x r r' c c' n n' t t' v tells = rw (newest_first events (Done i taken)) (λ f ids moves. record {
