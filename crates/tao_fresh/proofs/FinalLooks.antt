@@ -1,5 +1,5 @@
 -- When all is done, a scan sees the plain array. The events `es` are newest first.
-use Rattle.std.proofs.Common.{◌≡◌, ℕ, suc, ◌+◌, ◌*◌, ◌<◌, ◌≤◌, true, false, cond, List, [], ◌∷◌, reverse, Option, Some, None, is_some, refl, sym, ap, ◌∙◌, arith, inl, inr, ◌⊎◌, nat_lt, mod-lt}
+use Rattle.std.proofs.Common.{◌≡◌, ℕ, ◌+◌, ◌*◌, ◌<◌, ◌≤◌, true, false, List, [], ◌∷◌, reverse, Option, Some, None, is_some, refl, sym, ap, ◌∙◌, arith, inl, inr, ◌⊎◌, nat_lt, mod-lt}
 use Rattle.std.specs.Option.{option_or}
 use Rattle.std.specs.List.{range_with_len}
 use Rattle.std.proofs.lemmas.Bool.{cases_lt, true≢false, and_parts, false_from_ne_true}
@@ -9,14 +9,13 @@ use Rattle.tao_base.specs.declared.session.Event.TheVariants.{Arrive, Done, Issu
 use Rattle.tao_base.specs.declared.storage.Bucket.{Bucket}
 use Rattle.tao_base.specs.Session.{Opening}
 use Rattle.tao_base.specs.Tree.{node_count}
-use Rattle.tao_model.specs.Events.{arrived, dones, issues, is_done, word_at}
+use Rattle.tao_model.specs.Events.{issues, word_at}
 use Rattle.tao_model.specs.Requests.{position, position_word}
 use Rattle.tao_model.specs.Residence.{last_touch, bucket_of, is_resident, newest_write}
 use Rattle.tao_model.specs.Replies.{array_now}
 use Rattle.tao_model.specs.Placement.{entries_at}
 use Rattle.tao_model.specs.Lawful.{FollowsLawfully, OpensWithLoad, touched_after}
 use Rattle.tao_model.proofs.FallingPaths.{has}
-use Rattle.tao_model.proofs.Places.{done_arrived}
 use Rattle.tao_model.proofs.LawfulToWhole.{follows_opening}
 use Rattle.tao_laws.specs.SettledValues.{settled_value}
 use Rattle.tao_laws.proofs.CountedWork.{work_from}

@@ -5,7 +5,8 @@ use Rattle.std.specs.Option.{option_or}
 use Rattle.std.proofs.lemmas.Bool.{cases_lt, cases_eq, eq-eqb, ne_eqb, true≢false}
 use Rattle.tao_base.specs.declared.storage.Entry.{Entry}
 use Rattle.tao_base.specs.Tree.{node_count, path, is_on_path}
-use Rattle.tao_model.specs.Placement.{Rises, look, first_copy, may_evict, IsEvicted}
+use Rattle.tao_base.specs.Buckets.{Rises}
+use Rattle.tao_model.specs.Placement.{look, first_copy, may_evict, IsEvicted}
 use Rattle.tao_model.specs.Passes.{gather}
 use Rattle.tao_model.specs.Evictions.{evicted}
 use Rattle.tao_model.proofs.FallingPaths.{has}

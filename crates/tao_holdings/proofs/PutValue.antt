@@ -1,15 +1,12 @@
 -- A put, as a look-up sees it and as a list.
-use Rattle.std.proofs.Common.{◌≡◌, ℕ, ◌<◌, cond, nat_eq, List, [], ◌∷◌, Some, refl, sym, ap, ◌∙◌, subst, inl, inr, ◌⊎◌}
+use Rattle.std.proofs.Common.{◌≡◌, ℕ, List, refl, subst, inl, inr, ◌⊎◌}
 use Rattle.std.proofs.Math.Path.{fun_ext}
 use Rattle.std.proofs.lemmas.Bool.{eq-eqb, ne_eqb, cases_eq}
-use Rattle.tao_base.specs.declared.storage.Entry.{Entry}
-use Rattle.tao_held.specs.Steps.{put, entry_of}
+use Rattle.tao_held.specs.Steps.{put}
 use Rattle.tao_held.proofs.AlikeContents.{put_is_gathered}
 use Rattle.tao_flush.specs.Blocks.{PutsValue}
 use Rattle.tao_flush.specs.State.{StashState, PositionsState}
-use Rattle.tao_model.specs.Passes.{gather}
 use Rattle.tao_base.specs.Buckets.{Rises}
-use Rattle.tao_model.proofs.RisingEntries.{same_entries}
 use Rattle.tao_subtree.specs.Residents.{SubtreeState}
 use Rattle.tao_base.specs.Limits.{Shape}
 use Rattle.tao_holdings.specs.Holding.{HoldingsState, contents_in}

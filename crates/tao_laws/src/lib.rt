@@ -1,4 +1,4 @@
-//! Laws of every lawful record, whatever its contents: residence, requests and their words, and two plays of one schedule.
+//! Laws of every lawful record, whatever its contents: residence, requests and their words, counts, and two plays of one schedule.
 //! The only code is laws: functions with empty bodies, whose contract is the law.
 #![tactic(auto)]
 
