@@ -1,21 +1,13 @@
 -- Clean nodes stay clean, and a write-back makes all clean.
-use Rattle.std.proofs.Common.{◌≡◌, ℕ, ◌<◌, Bool, true, false, not, ◌&&◌, ◌||◌, cond, List, refl, sym, ap, ◌∙◌, arith, inl, inr, ◌⊎◌}
+use Rattle.std.proofs.Common.{◌≡◌, ℕ, ◌<◌, Bool, true, false, not, ◌||◌, cond, List, refl, sym, ap, ◌∙◌, arith, inl, inr, ◌⊎◌}
 use Rattle.std.proofs.lemmas.Bool.{ne_eqb, cases_Bool, or_parts, and_parts, not-true, true≢false}
 use Rattle.tao_base.specs.declared.storage.Entry.{Entry}
-use Rattle.tao_base.specs.Limits.{Shape}
-use Rattle.tao_base.specs.Tree.{path, is_on_path}
-use Rattle.tao_model.proofs.OneEviction.{eviction_is_placed}
+use Rattle.tao_base.specs.Tree.{is_on_path}
 use Rattle.tao_held.specs.Steps.{take_in, with_path, put, evict}
+use Rattle.tao_held.proofs.HeldSteps.{evict_off, take_in_off}
 use Rattle.tao_contents.specs.CleanLaws.{CleanResidents, touching, RealFetchKeepsClean, FakeFetchKeepsClean, IssueCleans, AcknowledgementKeepsClean, CurrentIsWritten}
-use Rattle.tao_contents.proofs.Looks.{outside}
 
 -- a node off the path keeps its entries
-evict_off : (s : Shape) (at : ℕ) (leaf : ℕ → ℕ) (contents : ℕ → List Entry) (w : ℕ) → 0 < w → is_on_path s.l at w ≡ false → evict s at leaf contents w ≡ contents w
-evict_off s at leaf contents w low off = (eviction_is_placed s (path s.l at) leaf contents).others w (outside s.l at w low off)
-
-take_in_off : (l at : ℕ) (resident : ℕ → Bool) (taken own : ℕ → List Entry) (w : ℕ) → is_on_path l at w ≡ false → take_in l at resident taken own w ≡ own w
-take_in_off l at resident taken own w off = ap (λ p. cond (p && not (resident w)) (taken w) (own w)) off
-
 was_held : (x y : Bool) → (x || y) ≡ true → y ≡ false → x ≡ true
 was_held true y held off = refl
 was_held false y held off = absurd (true≢false (sym held ∙ off))

@@ -17,13 +17,13 @@ use Rattle.tao_model.specs.Placement.{entries_at}
 use Rattle.tao_model.specs.Lawful.{FollowsLawfully, OpensWithLoad, touched_after}
 use Rattle.tao_model.proofs.FallingPaths.{has}
 use Rattle.tao_model.proofs.LawfulToWhole.{follows_opening}
+use Rattle.tao_held.specs.Held.{held, newest_entries, entries_of_option}
+use Rattle.tao_contents.proofs.Seen.{final_array}
 use Rattle.tao_laws.specs.SettledValues.{settled_value}
 use Rattle.tao_laws.proofs.CountedWork.{work_from}
 use Rattle.tao_laws.proofs.Listings.{has_filter, range_has}
 use Rattle.tao_laws.proofs.RecentNodes.{bucket_in}
 use Rattle.tao_laws.proofs.RightValues.{right_from, length_now}
-use Rattle.tao_contents.proofs.Seen.{final_array}
-use Rattle.tao_held.specs.Held.{held, newest_entries, entries_of_option}
 use Rattle.tao_fresh.specs.FreshLaws.{IsHonestScan, ArrayIsSeen}
 use Rattle.tao_fresh.proofs.WrittenBuckets.{bucket_found, entries_found}
 use Rattle.tao_fresh.proofs.FreshCopies.{fresh_from}

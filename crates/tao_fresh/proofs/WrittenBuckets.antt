@@ -1,23 +1,22 @@
 -- The latest versions of the nodes, and the buckets fetched of them. The events `es` are newest first.
-use Rattle.std.proofs.Common.{◌≡◌, ℕ, ◌+◌, ◌<◌, Bool, true, false, not, cond, List, [], ◌∷◌, All, Option, Some, None, is_some, IfSome, refl, sym, ap, ◌∙◌, subst, arith, nat_eq}
-use Rattle.std.specs.Option.{option_or}
+use Rattle.std.proofs.Common.{◌≡◌, ℕ, Bool, true, false, not, cond, List, [], ◌∷◌, All, Option, Some, None, is_some, IfSome, refl, sym, ap, ◌∙◌, subst, arith, nat_eq}
 use Rattle.std.proofs.lemmas.Bool.{eqb-true, true≢false, and_from}
 use Rattle.std.proofs.lemmas.Option.{same_Some}
 use Rattle.std.proofs.lemmas.List.Elements.{All-head, All-tail}
 use Rattle.tao_base.specs.declared.session.Event.{Event}
-use Rattle.tao_base.specs.declared.session.Event.TheVariants.{Arrive, Done, Issue, Acked, Fault}
 use Rattle.tao_base.specs.declared.storage.Bucket.{Bucket}
 use Rattle.tao_base.specs.Session.{Opening}
-use Rattle.tao_base.specs.Tree.{node_count, path}
+use Rattle.tao_base.specs.Tree.{path}
 use Rattle.tao_model.specs.Requests.{fetched_leaf}
 use Rattle.tao_model.specs.Residence.{bucket_of, is_resident, newest_write, HasEntriesOf}
 use Rattle.tao_model.specs.Placement.{entries_at}
 use Rattle.tao_model.specs.Lawful.{OpensWithLoad, MayBeDone}
 use Rattle.tao_model.proofs.FallingPaths.{has, on_path_has}
-use Rattle.tao_laws.proofs.Listings.{has_filter, has_range}
-use Rattle.tao_laws.proofs.RecentNodes.{bucket_in, fetched_in_tree}
-use Rattle.tao_contents.specs.FetchLaws.{IsHonest}
 use Rattle.tao_held.specs.Held.{newest_entries, entries_of_option}
+use Rattle.tao_contents.specs.FetchLaws.{IsHonest}
+use Rattle.tao_laws.proofs.Listings.{has_filter}
+use Rattle.tao_laws.proofs.RecentNodes.{bucket_in, fetched_in_tree}
+use Rattle.tao_laws.proofs.AnswersAsWritten.{the_some, was_written}
 
 -- a node's bucket is in the list and has that node
 pub bucket_found : (Q : Bucket → Type 0) (node : ℕ) (buckets : List Bucket) → All Q buckets → (x : Bucket) → bucket_of node buckets ≡ Some x → Q x × (x.node ≡ node)
@@ -40,24 +39,6 @@ entries_found node (b ∷ buckets) = either (nat_eq b.node node) (entries_found 
     either true ih = refl
     either false ih = ih
 
--- ---- each node of the tree was written
-
-some_there : {X : Type 0} (x : Option X) → is_some x ≡ true → (y : X) × (x ≡ Some y)
-some_there None is = absurd (true≢false (sym is))
-some_there (Some y) is = (y, refl)
-
-or_some : {X : Type 0} (x y : Option X) → is_some y ≡ true → is_some (option_or x y) ≡ true
-or_some None y is = is
-or_some (Some x) y is = refl
-
-pub written_there : (o : Opening) (es : List Event) (w : ℕ) → OpensWithLoad o → 0 < w → w < node_count o.shape.l + 1 → is_some (newest_write o es w) ≡ true
-written_there o [] w opens low high = bucket_in w o.loaded ∙ ap (has w) opens.numbered.nodes ∙ has_range 1 (node_count o.shape.l) w low (omega arith)
-written_there o (Arrive client op word ∷ es) w opens low high = written_there o es w opens low high
-written_there o (Done arrival taken ∷ es) w opens low high = written_there o es w opens low high
-written_there o (Issue version nonce buckets ∷ es) w opens low high = or_some (bucket_of w buckets) (newest_write o es w) (written_there o es w opens low high)
-written_there o (Acked version ∷ es) w opens low high = written_there o es w opens low high
-written_there o (Fault cause ∷ es) w opens low high = written_there o es w opens low high
-
 -- ---- an honest fetch
 
 honest_one : (write : Option Bucket) (x : Bucket) → is_some write ≡ true → IfSome write (HasEntriesOf x) → x.entries ≡ entries_of_option write
@@ -67,7 +48,7 @@ honest_one (Some y) x is same = same
 pub honest_from : (o : Opening) (es : List Event) (i : ℕ) (taken : List Bucket) → OpensWithLoad o → MayBeDone o es i taken
     → All (λ bucket. IfSome (newest_write o es bucket.node) (HasEntriesOf bucket)) taken
     → IsHonest o.shape.l (fetched_leaf o es i) (λ w. is_resident o es w) (entries_at taken) (λ w. newest_entries o es w)
-honest_from o es i taken opens may honest w on away = either (some_there (bucket_of w taken) found)
+honest_from o es i taken opens may honest w on away = either (the_some (bucket_of w taken) found)
   where
     inside : has w (path o.shape.l (fetched_leaf o es i)) ≡ true
     inside = sym (on_path_has o.shape.l (fetched_leaf o es i) w) ∙ on
@@ -81,4 +62,4 @@ honest_from o es i taken opens may honest w on away = either (some_there (bucket
         let is = bucket_found (λ bucket. IfSome (newest_write o es bucket.node) (HasEntriesOf bucket)) w taken honest x.0 x.1 in
         let there = fetched_in_tree o es i w on in
         sym (entries_found w taken) ∙ ap entries_of_option x.1
-        ∙ honest_one (newest_write o es w) x.0 (written_there o es w opens there.0 there.1) (subst (λ v. IfSome (newest_write o es v) (HasEntriesOf x.0)) is.1 is.0)
+        ∙ honest_one (newest_write o es w) x.0 (let high = there.1 in was_written o es w opens there.0 (omega arith)) (subst (λ v. IfSome (newest_write o es v) (HasEntriesOf x.0)) is.1 is.0)

@@ -18,11 +18,11 @@ use Rattle.tao_model.specs.Placement.{entries_at}
 use Rattle.tao_model.specs.FreshCopy.{FreshCopy, current_contents}
 use Rattle.tao_model.specs.Lawful.{FollowsLawfully}
 use Rattle.tao_model.specs.OneMore.{with_one_more}
-use Rattle.tao_laws.specs.SettledValues.{settled_value}
+use Rattle.tao_held.specs.Held.{value_since, value_between, held, found_value, served_answer, newest_entries, is_recent, IsOfProxy}
 use Rattle.tao_contents.specs.FinalArray.{AreAllNodes, seen_array}
 use Rattle.tao_contents.specs.CleanLaws.{CleanResidents}
 use Rattle.tao_contents.specs.WriteBackLaws.{FreshWrites}
-use Rattle.tao_held.specs.Held.{value_since, value_between, held, found_value, served_answer, newest_entries, is_recent, IsOfProxy}
+use Rattle.tao_laws.specs.SettledValues.{settled_value}
 
 -- ---- values
 

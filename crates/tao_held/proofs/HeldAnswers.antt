@@ -1,7 +1,7 @@
 -- Answers don't change, and are those of the plain operations. The events `es` are newest first.
 use Rattle.std.proofs.Common.{◌≡◌, ℕ, ◌+◌, ◌<◌, ◌≤◌, Bool, true, false, ◌||◌, cond, List, [], ◌∷◌, ◌++◌, reverse, length, take, drop, set, refl, sym, ap, ◌∙◌, arith, inl, inr, ◌⊎◌, nat_eq}
 use Rattle.std.proofs.lemmas.Bool.{cases_lt, cases_eq, lt-ltb, le-ltb, eq-eqb, ne_eqb, true≢false}
-use Rattle.std.proofs.lemmas.List.{reverse-append, reverse-reverse, get_or-set_same, get_or-set_other, length-set, length_push, take-append-le, drop-append-le, drop_all, take_all, drop-take}
+use Rattle.std.proofs.lemmas.List.{reverse-append, reverse-reverse, get_or-set_same, get_or-set_other, length_push, take-append-le, drop-append-le, drop_all, take_all, drop-take}
 use Rattle.std.proofs.lemmas.List.Sums.{fold_push}
 use Rattle.tao_base.specs.declared.calls.Op.{Op}
 use Rattle.tao_base.specs.declared.calls.Op.TheVariants.{Read, Write, Pad}
@@ -18,6 +18,8 @@ use Rattle.tao_model.proofs.Places.{arrived_grows}
 use Rattle.tao_model.proofs.DonesInOrder.{picked_more, picked_same}
 use Rattle.tao_model.proofs.PlainArrays.{ops_listed}
 use Rattle.tao_model.proofs.LawfulToWhole.{done_kept}
+use Rattle.tao_model.proofs.PlainArrays.{length_step}
+use Rattle.tao_model.proofs.Growth.{done_stays}
 use Rattle.tao_held.specs.Held.{held, found_in, found_value, served_answer, block_of, block_on, op_value, value_since, value_between}
 use Rattle.tao_held.specs.HeldLaws.{AnswersStay, FoundStays, SinceIsFold, BetweenIsFold}
 
@@ -87,13 +89,9 @@ served_later o (e ∷ later) es j f there settled =
 pub answers_stay : AnswersStay
 answers_stay o events later j = rw (reverse-append events later) (λ f there settled. served_later o (reverse later) (reverse events) j f there settled)
 
-done_later : (later es : List Event) (i : ℕ) → is_done es i ≡ true → is_done (later ++ es) i ≡ true
-done_later [] es i done = done
-done_later (e ∷ later) es i done = done_kept i e (later ++ es) (done_later later es i done)
-
 found_later : (o : Opening) (later es : List Event) (i : ℕ) → FollowsLawfully o (later ++ es) → is_done es i ≡ true → found_value o (later ++ es) i ≡ found_value o es i
 found_later o [] es i f done = refl
-found_later o (e ∷ later) es i f done = found_stays_once o (later ++ es) e i f (done_later later es i done) ∙ found_later o later es i f.0 done
+found_later o (e ∷ later) es i f done = found_stays_once o (later ++ es) e i f (done_stays later es i done) ∙ found_later o later es i f.0 done
 
 pub found_stays : FoundStays
 found_stays o events later i = rw (reverse-append events later) (λ f done. found_later o (reverse later) (reverse events) i f done)
@@ -109,11 +107,6 @@ op_at xs block (Write id value) low = either (cases_eq id block)
         ∙ sym (ap (λ t. cond t value (block_at xs block)) (eq-eqb id block same))
     either (inr other) = get_or-set_other xs id block value [] (λ same. other (sym same)) ∙ sym (ap (λ t. cond t value (block_at xs block)) (ne_eqb id block other))
 op_at xs block Pad low = refl
-
-length_step : (xs : List (List ℕ)) (op : Op) → length (array_step xs op) ≡ length xs
-length_step xs (Read id) = refl
-length_step xs (Write id value) = length-set xs id value
-length_step xs Pad = refl
 
 length_after : (xs : List (List ℕ)) (list : List Op) → length (array_after xs list) ≡ length xs
 length_after xs [] = refl

@@ -26,7 +26,7 @@ use Rattle.tao_laws.proofs.RecentNodes.{bucket_in}
 
 -- ---- each node of the tree was written
 
-the_some : {X : Type 0} (x : Option X) → is_some x ≡ true → (y : X) × (x ≡ Some y)
+pub the_some : {X : Type 0} (x : Option X) → is_some x ≡ true → (y : X) × (x ≡ Some y)
 the_some None is = absurd (true≢false (sym is))
 the_some (Some y) is = (y, refl)
 
@@ -34,7 +34,7 @@ or_some : {X : Type 0} (x y : Option X) → is_some y ≡ true → is_some (opti
 or_some None y is = is
 or_some (Some x) y is = refl
 
-was_written : (o : Opening) (es : List Event) (w : ℕ) → OpensWithLoad o → 1 ≤ w → w ≤ node_count o.shape.l
+pub was_written : (o : Opening) (es : List Event) (w : ℕ) → OpensWithLoad o → 1 ≤ w → w ≤ node_count o.shape.l
     → is_some (newest_write o es w) ≡ true
 was_written o [] w opens low high =
     bucket_in w o.loaded ∙ ap (has w) opens.numbered.nodes ∙ has_range 1 (node_count o.shape.l) w low (omega arith)

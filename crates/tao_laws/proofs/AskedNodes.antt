@@ -53,7 +53,7 @@ record HasStayed (o : Opening) (asked now : List Event) (node : ℕ) : Type 0 wh
   version : newest_version now node ≡ newest_version asked node
 
 -- a fetch under way covers its nodes
-covers : (o : Opening) (es : List Event) (i node : ℕ) → i < arrived es → is_done es i ≡ false → fetches o es i node ≡ true → is_covered o es node ≡ false → ⊥
+pub covers : (o : Opening) (es : List Event) (i node : ℕ) → i < arrived es → is_done es i ≡ false → fetches o es i node ≡ true → is_covered o es node ≡ false → ⊥
 covers o es i node there under_way on none =
     true≢false (sym (and_from (not (is_done es i)) (fetches o es i node) (not_from_false (is_done es i) under_way) on)
     ∙ none_passes (λ j. not (is_done es j) && fetches o es j node) (arrived es) none i there)

@@ -4,12 +4,11 @@ use Rattle.std.proofs.lemmas.Bool.{cases_lt, cases_eq, eq-eqb, ne_eqb, eqb-true,
 use Rattle.std.proofs.lemmas.Nat.{mul-le}
 use Rattle.tao_base.specs.declared.session.Event.{Event}
 use Rattle.tao_base.specs.declared.session.Event.TheVariants.{Arrive, Done, Issue, Acked, Fault}
-use Rattle.tao_base.specs.Limits.{session_limit}
 use Rattle.tao_base.specs.Session.{Opening}
 use Rattle.tao_model.specs.Events.{arrived, dones, issues, acks, is_done, is_acked}
 use Rattle.tao_model.specs.Lawful.{FollowsLawfully}
 use Rattle.tao_model.proofs.Places.{done_arrived}
-use Rattle.tao_model.proofs.LawfulToWhole.{follows_opening, paced}
+use Rattle.tao_model.proofs.LawfulToWhole.{arrived_within, follows_opening, paced}
 use Rattle.tao_laws.specs.Counted.{count_below, IsAllDone, IsAllAcked, CountsAcks, AcksAreCounted, CountsWork, WorkIsCounted, QuietIsCounted}
 use Rattle.tao_laws.proofs.Counts.{count_same, count_within, count_full, count_all, count_more}
 
@@ -84,14 +83,6 @@ pub acks_are_counted : AcksAreCounted
 acks_are_counted o events f = acks_from o (reverse events) f
 
 -- ---- arrivals and Dones
-
-pub arrived_within : (o : Opening) (es : List Event) → FollowsLawfully o es → arrived es ≤ session_limit o.shape
-arrived_within o [] f = omega arith
-arrived_within o (Arrive client op word ∷ es) f = let room = f.2.1 in omega arith
-arrived_within o (Done arrival taken ∷ es) f = arrived_within o es f.0
-arrived_within o (Issue version nonce buckets ∷ es) f = arrived_within o es f.0
-arrived_within o (Acked version ∷ es) f = arrived_within o es f.0
-arrived_within o (Fault cause ∷ es) f = arrived_within o es f.0
 
 dones_counted : (o : Opening) (es : List Event) → FollowsLawfully o es → dones es ≡ count_below (is_done es) (arrived es)
 dones_counted o [] f = refl

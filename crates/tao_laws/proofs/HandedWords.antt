@@ -13,7 +13,7 @@ use Rattle.tao_model.proofs.Stays.{on_stays, real_stays, used_stays}
 use Rattle.tao_model.proofs.Places.{done_arrived}
 use Rattle.tao_model.proofs.OneMoreEvent.{word_for_block}
 use Rattle.tao_model.proofs.RealArrivals.{free_means, real_newest, on_newest}
-use Rattle.tao_laws.specs.OpenRequests.{IsOpen, IsQuiet, HandsWordsOn, WordsAreHandedOn, LeafIsPosition}
+use Rattle.tao_laws.specs.OpenRequests.{IsOpen, IsQuiet, HandsWordsOn, WordsAreHandedOn, LeafIsPosition, FetchesPosition}
 use Rattle.tao_laws.proofs.OpenArrivals.{one_open}
 
 -- ---- an arrival
@@ -144,8 +144,11 @@ hands_from o (Fault cause ∷ es) block f = let w = hands_from o es block f.0 in
 pub words_are_handed_on : WordsAreHandedOn
 words_are_handed_on o events block f = hands_from o (reverse events) block f
 
-pub leaf_is_position : LeafIsPosition
-leaf_is_position o events block f = let w = hands_from o (reverse events) block f in record {
-  open_one = λ i h. ap (leaf_at o (reverse events)) (w.used i h);
-  next_one = λ quiet. ap (leaf_at o (reverse events)) (w.quiet quiet);
+pub leaf_from : (o : Opening) (es : List Event) (block : ℕ) → FollowsLawfully o es → FetchesPosition o es block
+leaf_from o es block f = let w = hands_from o es block f in record {
+  open_one = λ i h. ap (leaf_at o es) (w.used i h);
+  next_one = λ quiet. ap (leaf_at o es) (w.quiet quiet);
 }
+
+pub leaf_is_position : LeafIsPosition
+leaf_is_position o events block f = leaf_from o (reverse events) block f

@@ -143,7 +143,7 @@ quiet_is_settled events block i quiet there on = quiet_settled (reverse events) 
 
 -- ---- released
 
-released_from : (es : List Event) (i : ℕ) → i < released es → is_settled es i ≡ true
+pub released_from : (es : List Event) (i : ℕ) → i < released es → is_settled es i ≡ true
 released_from es i h = either (pad_or_on es i there)
   where
     there : i < arrived es

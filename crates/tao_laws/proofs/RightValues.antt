@@ -13,16 +13,12 @@ use Rattle.tao_model.specs.Requests.{is_settled}
 use Rattle.tao_model.specs.Replies.{array_now, plain_reply}
 use Rattle.tao_model.proofs.Stays.{on_stays, reply_stays}
 use Rattle.tao_model.proofs.RealArrivals.{on_newest}
+use Rattle.tao_model.proofs.PlainArrays.{length_step}
 use Rattle.tao_laws.specs.SettledValues.{array_where}
 use Rattle.tao_laws.specs.OpenRequests.{IsRightValue, RightValue}
 use Rattle.tao_laws.proofs.OpenArrivals.{queue_from, quiet_settled}
 
 -- ---- one step of the array, at one block
-
-length_step : (blocks : List (List ℕ)) (op : Op) → length (array_step blocks op) ≡ length blocks
-length_step blocks (Read id) = refl
-length_step blocks (Write id value) = length-set blocks id value
-length_step blocks Pad = refl
 
 put_alike : (xs ys : List (List ℕ)) (id block : ℕ) (value : List ℕ) → length xs ≡ length ys → block_at xs block ≡ block_at ys block → block_at (set xs id value) block ≡ block_at (set ys id value) block
 put_alike xs ys id block value len h = either (cases_eq id block) (cases_lt block (length xs))

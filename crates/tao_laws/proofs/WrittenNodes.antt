@@ -17,7 +17,7 @@ use Rattle.tao_model.specs.Residence.{last_touch, bucket_of, is_issued, is_cover
 use Rattle.tao_model.specs.Lawful.{FollowsLawfully, MayBeIssued, IsOpening}
 use Rattle.tao_model.proofs.Stays.{newest_first}
 use Rattle.tao_model.proofs.LawfulToWhole.{paced, follows_opening}
-use Rattle.tao_laws.specs.Residents.{PeriodsAreCounted, WrittenAfterTouch, ExactVersion, WritesResidents, IssuedIsResident, AwayIsWritten, UntouchedSince, LeavesAcknowledged}
+use Rattle.tao_laws.specs.Residents.{PeriodsAreCounted, WrittenAfterTouch, ExactVersion, WritesResidents, IssuedIsResident, AwayIsWritten, UntouchedSince, LeavesAcknowledged, IsWrittenAfter, IsExact, CountsPeriods}
 use Rattle.tao_laws.proofs.RecentNodes.{touch_within, recent_from, written_where_recent}
 
 -- ---- version and touch of one node; m write-backs were issued
@@ -100,14 +100,17 @@ issued_from o (Issue version nonce buckets ∷ es) v node f h =
 issued_from o (Acked version ∷ es) v node f h = issued_from o es v node f.0 h
 issued_from o (Fault cause ∷ es) v node f h = issued_from o es v node f.0 h
 
-pub written_after_touch : WrittenAfterTouch
-written_after_touch o events version node f h =
-    let issued = issued_from o (reverse events) version node f h in
-    let w = written_from o (reverse events) node f in
+pub written_after : (o : Opening) (es : List Event) (version node : ℕ) → FollowsLawfully o es → is_issued es version node ≡ true → IsWrittenAfter o es version node
+written_after o es version node f h =
+    let issued = issued_from o es version node f h in
+    let w = written_from o es node f in
     let low = issued.0 in
     let high = issued.1 in
     let known = w.known in
     record { some = low; known = omega arith; touched = w.after (version - 1) (omega arith); newest = high }
+
+pub written_after_touch : WrittenAfterTouch
+written_after_touch o events version node f h = written_after o (reverse events) version node f h
 
 -- ---- the exact version
 
@@ -125,20 +128,20 @@ rounded_up k touch version some high low = either (cases_order version (div_ceil
         absurd (omega arith)
     either (inr (inr more)) = let over = low (div_ceil touch k) more in let under = bounds.0 in absurd (omega arith)
 
-pub exact_version : ExactVersion
-exact_version o events node f = record {
-  version = λ old. rounded_up o.shape.k (last_touch o (reverse events) node) (newest_version (reverse events) node) some (not_recent old w.exact) w.after;
+pub exact_from : (o : Opening) (es : List Event) (node : ℕ) → FollowsLawfully o es → IsExact o es node
+exact_from o es node f = record {
+  version = λ old. rounded_up o.shape.k (last_touch o es node) (newest_version es node) some (not_recent old w.exact) w.after;
   recent = (
-    λ recent. let before : newest_version (reverse events) node * o.shape.k ≤ issues (reverse events) * o.shape.k = mul-le-mul_right o.shape.k w.known in omega arith,
+    λ recent. let before : newest_version es node * o.shape.k ≤ issues es * o.shape.k = mul-le-mul_right o.shape.k w.known in omega arith,
     λ beyond. is_recent beyond w.exact,
   );
 }
   where
-    w : IsWritten (issues (reverse events)) o.shape.k (last_touch o (reverse events) node) (newest_version (reverse events) node)
-    w = written_from o (reverse events) node f
+    w : IsWritten (issues es) o.shape.k (last_touch o es node) (newest_version es node)
+    w = written_from o es node f
 
     opening : IsOpening o
-    opening = follows_opening o (reverse events) f
+    opening = follows_opening o es f
 
     shape : IsShape o.shape
     shape = opening.shape
@@ -146,17 +149,20 @@ exact_version o events node f = record {
     some : 0 < o.shape.k
     some = let low = shape.period_low in omega arith
 
-    not_recent : last_touch o (reverse events) node ≤ issues (reverse events) * o.shape.k
-        → (last_touch o (reverse events) node ≤ newest_version (reverse events) node * o.shape.k) ⊎ (issues (reverse events) * o.shape.k < last_touch o (reverse events) node)
-        → last_touch o (reverse events) node ≤ newest_version (reverse events) node * o.shape.k
+    not_recent : last_touch o es node ≤ issues es * o.shape.k
+        → (last_touch o es node ≤ newest_version es node * o.shape.k) ⊎ (issues es * o.shape.k < last_touch o es node)
+        → last_touch o es node ≤ newest_version es node * o.shape.k
     not_recent old (inl h) = h
     not_recent old (inr recent) = absurd (omega arith)
 
-    is_recent : newest_version (reverse events) node * o.shape.k < last_touch o (reverse events) node
-        → (last_touch o (reverse events) node ≤ newest_version (reverse events) node * o.shape.k) ⊎ (issues (reverse events) * o.shape.k < last_touch o (reverse events) node)
-        → issues (reverse events) * o.shape.k < last_touch o (reverse events) node
+    is_recent : newest_version es node * o.shape.k < last_touch o es node
+        → (last_touch o es node ≤ newest_version es node * o.shape.k) ⊎ (issues es * o.shape.k < last_touch o es node)
+        → issues es * o.shape.k < last_touch o es node
     is_recent beyond (inl h) = absurd (omega arith)
     is_recent beyond (inr recent) = recent
+
+pub exact_version : ExactVersion
+exact_version o events node f = exact_from o (reverse events) node f
 
 -- ---- the number of write-backs
 
@@ -170,21 +176,24 @@ full_periods k m n some low high =
     either at_least back (inr no_more) = omega arith
     either at_least back (inl more) = let up : (m + 1) * k ≤ n / k * k = mul-le-mul_right k (omega arith) in absurd (omega arith)
 
-pub periods_are_counted : PeriodsAreCounted
-periods_are_counted o events f = record {
-  paced = paced o (reverse events) f;
-  whole = λ none. full_periods o.shape.k (issues (reverse events)) (dones (reverse events)) some (paced o (reverse events) f) none;
-  touched = λ node. touch_within o (reverse events) node;
+pub periods_from : (o : Opening) (es : List Event) → FollowsLawfully o es → CountsPeriods o es
+periods_from o es f = record {
+  paced = paced o es f;
+  whole = λ none. full_periods o.shape.k (issues es) (dones es) some (paced o es f) none;
+  touched = λ node. touch_within o es node;
 }
   where
     opening : IsOpening o
-    opening = follows_opening o (reverse events) f
+    opening = follows_opening o es f
 
     shape : IsShape o.shape
     shape = opening.shape
 
     some : 0 < o.shape.k
     some = let low = shape.period_low in omega arith
+
+pub periods_are_counted : PeriodsAreCounted
+periods_are_counted o events f = periods_from o (reverse events) f
 
 -- ---- write-backs and nodes that aren't held
 
@@ -219,16 +228,19 @@ issued_is_resident o events version nonce buckets node =
 
 -- ---- nodes that aren't held, and nodes that leave
 
-pub away_is_written : AwayIsWritten
-away_is_written o events node f away = either w.exact
+pub away_from : (o : Opening) (es : List Event) (node : ℕ) → FollowsLawfully o es → is_resident o es node ≡ false → last_touch o es node ≤ newest_version es node * o.shape.k
+away_from o es node f away = either w.exact
   where
-    w : IsWritten (issues (reverse events)) o.shape.k (last_touch o (reverse events) node) (newest_version (reverse events) node)
-    w = written_from o (reverse events) node f
+    w : IsWritten (issues es) o.shape.k (last_touch o es node) (newest_version es node)
+    w = written_from o es node f
 
-    either : (last_touch o (reverse events) node ≤ newest_version (reverse events) node * o.shape.k) ⊎ (issues (reverse events) * o.shape.k < last_touch o (reverse events) node)
-        → last_touch o (reverse events) node ≤ newest_version (reverse events) node * o.shape.k
+    either : (last_touch o es node ≤ newest_version es node * o.shape.k) ⊎ (issues es * o.shape.k < last_touch o es node)
+        → last_touch o es node ≤ newest_version es node * o.shape.k
     either (inl h) = h
-    either (inr recent) = absurd (true≢false (sym (recent_from o (reverse events) node f recent) ∙ away))
+    either (inr recent) = absurd (true≢false (sym (recent_from o es node f recent) ∙ away))
+
+pub away_is_written : AwayIsWritten
+away_is_written o events node f away = away_from o (reverse events) node f away
 
 pub untouched_from : (o : Opening) (es : List Event) (version node : ℕ) → FollowsLawfully o es → is_issued es version node ≡ true → last_touch o es node ≤ version * o.shape.k
     → newest_version es node ≡ version

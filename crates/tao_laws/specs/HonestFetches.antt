@@ -19,7 +19,7 @@ pub record IsAsWritten (same : Bucket → Bucket → Type 0) (o : Opening) (earl
   pub there : written_at o earlier version bucket.node ≡ Some written
   pub is_same : same bucket written
 
--- So is each bucket that a Done took in: the one of each depth at which the proxy didn't hold the node.
+-- Each bucket that a Done took in is as it was last written before that Done.
 abbrev pub AreAsWritten : (Bucket → Bucket → Type 0) → Opening → List Event → Type 0
 AreAsWritten same o events = (p arrival i : ℕ) (taken : List Bucket) (bucket : Bucket)
     → IsAt events p (Done arrival taken) → slice_get taken i ≡ Some bucket → IsAsWritten same o (take p events) bucket

@@ -7,8 +7,8 @@ use Rattle.tao_model.specs.Requests.{is_real, next_word, word_used, fetched_leaf
 use Rattle.tao_model.specs.Replies.{ops}
 use Rattle.tao_model.specs.Lawful.{FollowsLawfully}
 use Rattle.tao_model.specs.Trace.{requests, request_trace}
-use Rattle.tao_laws.specs.TapeWords.{AreInRange}
 use Rattle.tao_model.specs.Shapes.{IsOneShape, twin_permutation, HasMovedWords}
+use Rattle.tao_laws.specs.TapeWords.{AreInRange}
 
 -- Both agree on which arrivals are real, the place that each uses, and the next place of each block.
 pub record HasSameKinds (first second : History) : Type 0 where

@@ -107,13 +107,13 @@ due_follows o es (Fault cause) f h = let owes = f.2.0 in absurd (omega arith)
 
 -- ---- arrivals
 
-few : (o : Opening) (es : List Event) → FollowsLawfully o es → arrived es ≤ session_limit o.shape
-few o [] f = omega arith
-few o (Arrive client op word ∷ es) f = let less = f.2.1 in omega arith
-few o (Done arrival taken ∷ es) f = few o es f.0
-few o (Issue version nonce buckets ∷ es) f = few o es f.0
-few o (Acked version ∷ es) f = few o es f.0
-few o (Fault cause ∷ es) f = few o es f.0
+pub arrived_within : (o : Opening) (es : List Event) → FollowsLawfully o es → arrived es ≤ session_limit o.shape
+arrived_within o [] f = omega arith
+arrived_within o (Arrive client op word ∷ es) f = let less = f.2.1 in omega arith
+arrived_within o (Done arrival taken ∷ es) f = arrived_within o es f.0
+arrived_within o (Issue version nonce buckets ∷ es) f = arrived_within o es f.0
+arrived_within o (Acked version ∷ es) f = arrived_within o es f.0
+arrived_within o (Fault cause ∷ es) f = arrived_within o es f.0
 
 -- ---- write-backs
 
@@ -168,7 +168,7 @@ module _ (o : Opening) (events : List Event) (f : FollowsLawfully o (reverse eve
 
   arrivals : ArrivalsAreLawful o events
   arrivals = record {
-    few = few o (reverse events) f;
+    few = arrived_within o (reverse events) f;
     made = λ p client op word at. let may = (follows_at o events p (Arrive client op word) f at).2 in (may.2, may.3);
   }
 

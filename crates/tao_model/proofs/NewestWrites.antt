@@ -1,5 +1,5 @@
 -- The latest version of a node is the greatest that has it. The events `es` are newest first.
-use Rattle.std.proofs.Common.{◌≡◌, ℕ, ◌+◌, ◌<◌, cond, List, [], ◌∷◌, ◌++◌, reverse, length, get_or, Option, Some, None, is_some, refl, sym, ap, ◌∙◌, subst, arith}
+use Rattle.std.proofs.Common.{◌≡◌, ℕ, ◌+◌, ◌<◌, ◌≤◌, cond, List, [], ◌∷◌, ◌++◌, reverse, length, get_or, Option, Some, None, is_some, refl, sym, ap, ◌∙◌, subst, arith}
 use Rattle.std.specs.Option.{option_or}
 use Rattle.std.proofs.lemmas.List.{reverse-reverse, get_or_append_left, get_or_push, length_push}
 use Rattle.tao_base.specs.declared.session.Event.{Event}
@@ -78,6 +78,10 @@ newest_from o (Done arrival taken ∷ es) node f = same_newest o es (Done arriva
 newest_from o (Issue version nonce buckets ∷ es) node f = newest_issue o es version nonce buckets node (bucket_of node buckets) refl f.2.next (newest_from o es node f.0)
 newest_from o (Acked version ∷ es) node f = same_newest o es (Acked version) node refl refl refl refl (newest_from o es node f.0)
 newest_from o (Fault cause ∷ es) node f = same_newest o es (Fault cause) node refl refl refl refl (newest_from o es node f.0)
+
+-- no node has a version that wasn't issued
+pub newest_within : (o : Opening) (es : List Event) (node : ℕ) → FollowsLawfully o es → newest_version es node ≤ issues es
+newest_within o es node f = (newest_from o es node f).version.within
 
 pub newest_is_greatest : NewestIsGreatest
 newest_is_greatest o events node f = record { version = is.version; bucket = is.bucket }

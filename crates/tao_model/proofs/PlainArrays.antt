@@ -1,9 +1,10 @@
 -- The plain array after a record's operations, and how far answers are released. The events `es` are newest first.
 use Rattle.std.proofs.Common.{◌≡◌, ℕ, ◌+◌, ◌<◌, ◌≤◌, true, List, [], ◌∷◌, ◌++◌, reverse, length, take, get_or, fold, refl, sym, ap, ◌∙◌, arith, inl, inr, ◌⊎◌}
 use Rattle.std.proofs.lemmas.Bool.{ne_eqb, eq-eqb, cases_lt, true≢false}
-use Rattle.std.proofs.lemmas.List.{reverse-reverse, get_or_append_left, get_or_push, length_push, take-append-le, take_at}
+use Rattle.std.proofs.lemmas.List.{reverse-reverse, get_or_append_left, get_or_push, length_push, length-set, take-append-le, take_at}
 use Rattle.std.proofs.lemmas.List.Sums.{fold_push}
 use Rattle.tao_base.specs.declared.calls.Op.{Op}
+use Rattle.tao_base.specs.declared.calls.Op.TheVariants.{Read, Write, Pad}
 use Rattle.tao_base.specs.declared.session.Event.{Event}
 use Rattle.tao_base.specs.declared.session.Event.TheVariants.{Arrive, Done, Issue, Acked, Fault}
 use Rattle.tao_base.specs.Session.{Opening}
@@ -13,6 +14,11 @@ use Rattle.tao_model.specs.Replies.{op_of, ops, array_now, plain_reply, released
 use Rattle.tao_model.specs.LookBacks.{OpsArrived, ArrayIsFold, ReplyIsPlain, ReleasedIsGreatest}
 use Rattle.tao_model.proofs.DonesInOrder.{picked_more, picked_same}
 use Rattle.tao_model.proofs.Growth.{IsLeading, leading_is}
+
+pub length_step : (blocks : List (List ℕ)) (op : Op) → length (array_step blocks op) ≡ length blocks
+length_step blocks (Read id) = refl
+length_step blocks (Write id value) = length-set blocks id value
+length_step blocks Pad = refl
 
 pub ops_listed : (es : List Event) → length (ops (reverse es)) ≡ arrived es
 ops_listed [] = refl

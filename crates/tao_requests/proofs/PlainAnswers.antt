@@ -6,15 +6,11 @@ use Rattle.tao_base.specs.Array.{block_at, array_step, array_after, array_reply}
 use Rattle.tao_base.specs.declared.calls.Op.{Op}
 use Rattle.tao_base.specs.declared.calls.Op.TheVariants.{Read, Write, Pad}
 use Rattle.tao_model.specs.Events.{names}
+use Rattle.tao_model.proofs.PlainArrays.{length_step}
 use Rattle.tao_requests.specs.declared.request.Request.{Request}
 use Rattle.tao_requests.specs.State.{request_at}
 use Rattle.tao_requests.specs.Settling.{value_after, answered_all, value_after_all, settled_from}
 use Rattle.tao_requests.specs.Laws.{ops_from, AnswersArePlain, ValueIsPlain}
-
-step_len : (blocks : List (List ℕ)) (op : Op) → length (array_step blocks op) ≡ length blocks
-step_len blocks (Read id) = refl
-step_len blocks (Write id value) = length-set blocks id value
-step_len blocks Pad = refl
 
 step_on : (blocks : List (List ℕ)) (block : ℕ) (op : Op) → block < length blocks → names block op ≡ true → block_at (array_step blocks op) block ≡ value_after (block_at blocks block) op
 step_on blocks block (Read id) there on = refl
@@ -41,7 +37,7 @@ answers_here : (block : ℕ) (rs : List Request) (k : ℕ) (blocks : List (List 
 answers_here block [] k blocks there on = absurd (true≢false (sym on))
 answers_here block (r ∷ rs) zero blocks there on = rw on (ap (λ v. Some v) (sym (reply_on blocks block r.op on)))
 answers_here block (r ∷ rs) (suc k) blocks there on =
-    next (answers_here block rs k (array_step blocks r.op) (omega (arith, step_len blocks r.op)) on) (names block r.op) refl
+    next (answers_here block rs k (array_step blocks r.op) (omega (arith, length_step blocks r.op)) on) (names block r.op) refl
   where
     next : AnswersHere block rs k (array_step blocks r.op) → (x : Bool) → names block r.op ≡ x → AnswersHere block (r ∷ rs) (suc k) blocks
     next ih true e = rw (e, ← step_on blocks block r.op there e) ih
@@ -62,7 +58,7 @@ answers_are_plain blocks block first k rs there on = answers_from block first k 
 value_here : (block : ℕ) (rs : List Request) (blocks : List (List ℕ)) → block < length blocks
     → value_after_all block (block_at blocks block) rs ≡ block_at (array_after blocks (map (λ r. r.op) rs)) block
 value_here block [] blocks there = refl
-value_here block (r ∷ rs) blocks there = next (value_here block rs (array_step blocks r.op) (omega (arith, step_len blocks r.op))) (names block r.op) refl
+value_here block (r ∷ rs) blocks there = next (value_here block rs (array_step blocks r.op) (omega (arith, length_step blocks r.op))) (names block r.op) refl
   where
     next : value_after_all block (block_at (array_step blocks r.op) block) rs ≡ block_at (array_after (array_step blocks r.op) (map (λ q. q.op) rs)) block
         → (x : Bool) → names block r.op ≡ x → value_after_all block (block_at blocks block) (r ∷ rs) ≡ block_at (array_after blocks (map (λ q. q.op) (r ∷ rs))) block

@@ -19,6 +19,7 @@ use Rattle.tao_model.specs.Shapes.{steps_of, IsOneShape}
 use Rattle.tao_model.proofs.FallingPaths.{has}
 use Rattle.tao_model.proofs.Places.{leaf_stays_later, arrived_grows}
 use Rattle.tao_model.proofs.LawfulToWhole.{earlier_follows}
+use Rattle.tao_laws.specs.TwoPlays.{LeavesAgree}
 use Rattle.tao_laws.proofs.KindsAlone.{picked_back, same_steps, kinds_need_no_word}
 use Rattle.tao_laws.proofs.ToldTraces.{told_again, again_is}
 use Rattle.tao_text.specs.declared.script.What.{What}
@@ -27,7 +28,6 @@ use Rattle.tao_schedule.specs.Moves.{Move, Arrives, Serves, Completes, Applies, 
 use Rattle.tao_schedule.specs.Schedules.{Goes, IsSchedule, GoOn, TakesIn}
 use Rattle.tao_schedule.specs.Steps.{is_misplaced, is_full, moves_of, rest_of, seen_step, asked_behind, IsPart, AreParts, IsStep, ArePlayed}
 use Rattle.tao_schedule.specs.Alike.{IsSession, AreAlike, AlikeSteps, AlikeTests, TestsNeedNoOp, StepGoesOn, PlayedIsAllowed, AlikeGoOn, OneSchedule, PlayedFront, MisplacedStays}
-use Rattle.tao_laws.specs.TwoPlays.{LeavesAgree}
 use Rattle.tao_schedule.proofs.ServerVersions.{under_parts}
 use Rattle.tao_schedule.proofs.ToldEvents.{bare, arrived_bare, dones_bare, issues_bare, done_bare, acked_bare, steps_bare, told, goes_lawful, bare_is_told, SeenSame, seen_told, served_seen, applied_seen, nodes_again, nodes_are_again, issued_has}
 

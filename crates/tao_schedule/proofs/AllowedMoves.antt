@@ -5,7 +5,6 @@ use Rattle.std.proofs.lemmas.Bool.{cases_lt, eq-eqb, eqb-true, ne_eqb, true≢fa
 use Rattle.std.proofs.lemmas.List.{reverse-append, reverse-reverse, append_assoc}
 use Rattle.std.proofs.lemmas.List.FromFn.{get_or-map-range_with_len, length-map-range_with_len}
 use Rattle.tao_base.specs.declared.session.Event.{Event}
-use Rattle.tao_base.specs.declared.session.Event.TheVariants.{Arrive, Done, Issue, Acked, Fault}
 use Rattle.tao_base.specs.Session.{Opening}
 use Rattle.tao_base.specs.Tree.{node_at, path, node_count}
 use Rattle.tao_base.specs.Limits.{session_limit}
@@ -15,6 +14,7 @@ use Rattle.tao_model.specs.Residence.{is_issued}
 use Rattle.tao_model.specs.Lawful.{FollowsLawfully}
 use Rattle.tao_model.specs.Passes.{Falls}
 use Rattle.tao_model.proofs.FallingPaths.{has, has_below, has_reverse, on_path_has, path_falls}
+use Rattle.tao_model.proofs.LawfulToWhole.{arrived_within}
 use Rattle.tao_laws.proofs.Listings.{HasOnce, has_filter, once_append, once_filter, listed_at}
 use Rattle.tao_laws.proofs.RecentNodes.{leaf_low}
 use Rattle.tao_text.specs.declared.script.What.{What}
@@ -127,21 +127,13 @@ put_one o ms es v node may =
     let inner = and_parts (is_issued es v node) (not (is_applied ms v node)) both.1 in
     (es, (both.0, inner.0, refl), (refl, refl))
 
-within_limit : (o : Opening) (es : List Event) → FollowsLawfully o es → arrived es ≤ session_limit o.shape
-within_limit o [] f = omega arith
-within_limit o (Arrive client op word ∷ es) f = let low = f.2.1 in omega arith
-within_limit o (Done arrival taken ∷ es) f = within_limit o es f.0
-within_limit o (Issue version nonce buckets ∷ es) f = within_limit o es f.0
-within_limit o (Acked version ∷ es) f = within_limit o es f.0
-within_limit o (Fault cause ∷ es) f = within_limit o es f.0
-
 has_room : (o : Opening) (es : List Event) → FollowsLawfully o es → nat_eq (arrived es) (session_limit o.shape) ≡ false → arrived es < session_limit o.shape
 has_room o es f full =
     either (cases_lt (arrived es) (session_limit o.shape))
   where
     either : (arrived es < session_limit o.shape) ⊎ (session_limit o.shape ≤ arrived es) → arrived es < session_limit o.shape
     either (inl low) = low
-    either (inr high) = let within = within_limit o es f in absurd (true≢false (sym (eq-eqb (arrived es) (session_limit o.shape) (omega arith)) ∙ full))
+    either (inr high) = let within = arrived_within o es f in absurd (true≢false (sym (eq-eqb (arrived es) (session_limit o.shape) (omega arith)) ∙ full))
 
 pub placed_may_go : PlacedMayGo
 unfolding is_misplaced is_full moves_of Goes

@@ -7,12 +7,14 @@ use Rattle.tao_base.specs.declared.session.Event.{Event}
 use Rattle.tao_base.specs.declared.session.Event.TheVariants.{Done, Issue, Acked}
 use Rattle.tao_base.specs.declared.storage.Bucket.{Bucket}
 use Rattle.tao_base.specs.Session.{Opening}
-use Rattle.tao_model.specs.Events.{arrived, issues, acks, is_done, is_acked, is_under_way, is_outstanding}
 use Rattle.tao_base.specs.Tree.{path}
+use Rattle.tao_model.specs.Events.{arrived, issues, acks, is_done, is_acked, is_under_way, is_outstanding}
 use Rattle.tao_model.specs.Requests.{fetched_leaf}
 use Rattle.tao_model.specs.Lawful.{FollowsLawfully}
 use Rattle.tao_model.proofs.FallingPaths.{has}
-use Rattle.tao_model.proofs.LawfulToWhole.{done_kept}
+use Rattle.tao_model.proofs.Growth.{done_stays}
+use Rattle.tao_laws.specs.TwoPlays.{LeavesAgree}
+use Rattle.tao_laws.specs.Counted.{IsAllAcked}
 use Rattle.tao_laws.proofs.CountedWork.{dones_full}
 use Rattle.tao_laws.proofs.Listings.{has_filter, has_range}
 use Rattle.tao_text.specs.declared.script.What.{What}
@@ -20,8 +22,6 @@ use Rattle.tao_schedule.specs.Moves.{Move, Applies, Acknowledges, nodes_issued, 
 use Rattle.tao_schedule.specs.Schedules.{Goes, IsSchedule, GoOn}
 use Rattle.tao_schedule.specs.Steps.{moves_of, IsPart, AreParts}
 use Rattle.tao_schedule.specs.Alike.{AreAlike}
-use Rattle.tao_laws.specs.TwoPlays.{LeavesAgree}
-use Rattle.tao_laws.specs.Counted.{IsAllAcked}
 use Rattle.tao_schedule.specs.Drains.{drain_parts, outstanding, again_moves, AreSentAgain, AreDrained, DrainGoesOn, DrainsAlike, DrainEnds}
 use Rattle.tao_schedule.proofs.ServerVersions.{under_parts, under_from}
 use Rattle.tao_schedule.proofs.ToldEvents.{SeenSame}
@@ -159,10 +159,6 @@ drains_alike o ms es again later now other ns others too newer thus s t f d a g 
     versions = g.versions ∙ outstanding_list g.between k.between between ∙ sym k.versions
 
 -- ---- all arrivals are done
-
-done_stays : (added es : List Event) (i : ℕ) → is_done es i ≡ true → is_done (added ++ es) i ≡ true
-done_stays [] es i h = h
-done_stays (e ∷ added) es i h = done_kept i e (added ++ es) (done_stays added es i h)
 
 done_behind : (es now : List Event) (i : ℕ) → IsQuiet es now → is_done es i ≡ true → is_done now i ≡ true
 done_behind es now i q h = ap (λ l. is_done l i) q.split ∙ done_stays q.added es i h

@@ -3,7 +3,7 @@ use Rattle.std.proofs.Common.{◌≡◌, ℕ, ◌+◌, ◌≤◌, Bool, true, fa
 use Rattle.std.proofs.Math.Nat.{le-max_right}
 use Rattle.std.proofs.lemmas.Bool.{eqb-true, true≢false, and_parts, or_cases}
 use Rattle.tao_base.specs.declared.session.Event.{Event}
-use Rattle.tao_base.specs.declared.session.Event.TheVariants.{Arrive, Done, Issue, Acked, Fault}
+use Rattle.tao_base.specs.declared.session.Event.TheVariants.{Done, Issue, Acked}
 use Rattle.tao_base.specs.declared.storage.Bucket.{Bucket}
 use Rattle.tao_base.specs.Session.{Opening}
 use Rattle.tao_model.specs.Events.{issues, is_acked}
@@ -11,25 +11,15 @@ use Rattle.tao_model.specs.Residence.{bucket_of, is_issued, newest_version}
 use Rattle.tao_model.specs.Lawful.{FollowsLawfully}
 use Rattle.tao_model.specs.LookBacks.{written_at}
 use Rattle.tao_model.proofs.NewestWrites.{newest_is_greatest}
+use Rattle.tao_model.proofs.NewestWrites.{newest_within}
 use Rattle.tao_laws.proofs.AskedNodes.{newest_issued}
 use Rattle.tao_laws.proofs.WrittenNodes.{issued_from}
+use Rattle.tao_laws.proofs.CountedWork.{acked_known}
 use Rattle.tao_schedule.specs.Moves.{Move, Arrives, Serves, Completes, Applies, Acknowledges, server_version, is_applied}
 use Rattle.tao_schedule.specs.Schedules.{Goes, IsSchedule, TakesIn}
 use Rattle.tao_schedule.specs.Laws.{ServerIsNewest, ServedIsNewest}
-use Rattle.tao_schedule.proofs.ServerVersions.{applied_reached, newest_within, stays_in_step}
+use Rattle.tao_schedule.proofs.ServerVersions.{applied_reached, stays_in_step}
 use Rattle.tao_schedule.proofs.ToldEvents.{goes_lawful}
-
-acked_known : (o : Opening) (es : List Event) (v : ℕ) → FollowsLawfully o es → is_acked es v ≡ true → v ≤ issues es
-acked_known o [] v f h = absurd (true≢false (sym h))
-acked_known o (Arrive client op word ∷ es) v f h = acked_known o es v f.0 h
-acked_known o (Done arrival taken ∷ es) v f h = acked_known o es v f.0 h
-acked_known o (Issue version nonce buckets ∷ es) v f h = let before = acked_known o es v f.0 h in omega arith
-acked_known o (Acked version ∷ es) v f h = either (or_cases (nat_eq version v) (is_acked es v) h) (λ earlier. acked_known o es v f.0 earlier)
-  where
-    either : (nat_eq version v ≡ true) ⊎ (is_acked es v ≡ true) → (is_acked es v ≡ true → v ≤ issues es) → v ≤ issues es
-    either (inl now) ih = let known : version ≤ issues es = f.2.2 in let same : version ≡ v = eqb-true version v now in omega arith
-    either (inr earlier) ih = ih earlier
-acked_known o (Fault cause ∷ es) v f h = acked_known o es v f.0 h
 
 -- an acknowledged write-back of the node has reached the server
 abbrev IsReached : List Move → List Event → ℕ → ℕ → Type 0
@@ -43,7 +33,7 @@ reached_issue o ms es version nonce buckets v node f ih acked issued = either (o
     either (inl now) =
         let same : version ≡ v = eqb-true version v (and_parts (nat_eq version v) (is_some (bucket_of node buckets)) now).0 in
         let next : version ≡ issues es + 1 = f.2.next in
-        let known = acked_known o es v f.0 acked in
+        let known = (acked_known o es v f.0 acked).1 in
         absurd (omega arith)
     either (inr earlier) = ih acked earlier
 

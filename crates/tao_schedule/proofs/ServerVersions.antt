@@ -4,16 +4,17 @@ use Rattle.std.proofs.Math.Nat.{max-eq_right, max-le, le-max_left, le-max_right}
 use Rattle.std.proofs.lemmas.Bool.{eqb-true, ltb-true, lt-ltb, true≢false, and_parts, and_cases, and_from, or_parts, or_cases, not-true, not-false, not_from_false}
 use Rattle.tao_base.specs.declared.calls.Op.{Op}
 use Rattle.tao_base.specs.declared.session.Event.{Event}
-use Rattle.tao_base.specs.declared.session.Event.TheVariants.{Arrive, Done, Issue, Acked, Fault}
+use Rattle.tao_base.specs.declared.session.Event.TheVariants.{Arrive, Done, Issue, Acked}
 use Rattle.tao_base.specs.declared.storage.Bucket.{Bucket}
 use Rattle.tao_base.specs.Session.{Opening}
 use Rattle.tao_model.specs.Events.{arrived, issues, is_done, is_under_way}
 use Rattle.tao_model.specs.Requests.{fetches}
 use Rattle.tao_model.specs.Residence.{bucket_of, is_issued, is_covered, departs, is_resident, newest_version}
 use Rattle.tao_model.specs.Lawful.{FollowsLawfully}
-use Rattle.tao_model.proofs.RealArrivals.{none_passes}
 use Rattle.tao_model.proofs.DonesInOrder.{fetch_stays}
+use Rattle.tao_model.proofs.NewestWrites.{newest_within}
 use Rattle.tao_laws.proofs.WrittenNodes.{issued_from, away_unwritten, leaves_parts, leaves_from}
+use Rattle.tao_laws.proofs.AskedNodes.{covers}
 use Rattle.tao_schedule.specs.Moves.{Move, Arrives, Serves, Completes, Applies, Acknowledges, server_version, served_version, is_served, is_applied}
 use Rattle.tao_schedule.specs.Schedules.{Goes, IsSchedule, TakesIn}
 use Rattle.tao_schedule.specs.Laws.{ServerInStep, StaysInStep}
@@ -27,13 +28,6 @@ under_parts es i h =
 
 pub under_from : (es : List Event) (i : ℕ) → i < arrived es → is_done es i ≡ false → is_under_way es i ≡ true
 under_from es i there open_too = and_from (nat_lt i (arrived es)) (not (is_done es i)) (lt-ltb i (arrived es) there) (not_from_false (is_done es i) open_too)
-
--- a fetch under way covers its nodes
-covers : (o : Opening) (es : List Event) (i node : ℕ) → is_under_way es i ≡ true → fetches o es i node ≡ true → is_covered o es node ≡ false → ⊥
-covers o es i node way on none =
-    let parts = under_parts es i way in
-    true≢false (sym (and_from (not (is_done es i)) (fetches o es i node) (not_from_false (is_done es i) parts.1) on)
-    ∙ none_passes (λ j. not (is_done es j) && fetches o es j node) (arrived es) none i parts.0)
 
 -- ---- a served read was requested, and an applied write arrived
 
@@ -83,19 +77,6 @@ applied_reached (Completes fetch ∷ ms) v node h = applied_reached ms v node h
 applied_reached (Applies version applied ∷ ms) v node h =
     reached_step (nat_eq applied node) version v node (server_version ms node) (nat_eq version v) (is_applied ms v node) h (eqb-true version v) (λ earlier. applied_reached ms v node earlier)
 applied_reached (Acknowledges version ∷ ms) v node h = applied_reached ms v node h
-
-within_step : (t : Bool) (v m r : ℕ) → v ≡ m + 1 → r ≤ m → cond t v r ≤ m + 1
-within_step true v m r at le = omega arith
-within_step false v m r at le = omega arith
-
-pub newest_within : (o : Opening) (es : List Event) (node : ℕ) → FollowsLawfully o es → newest_version es node ≤ issues es
-newest_within o [] node f = omega arith
-newest_within o (Arrive client op word ∷ es) node f = newest_within o es node f.0
-newest_within o (Done arrival taken ∷ es) node f = newest_within o es node f.0
-newest_within o (Issue version nonce buckets ∷ es) node f =
-    within_step (is_some (bucket_of node buckets)) version (issues es) (newest_version es node) f.2.next (newest_within o es node f.0)
-newest_within o (Acked version ∷ es) node f = newest_within o es node f.0
-newest_within o (Fault cause ∷ es) node f = newest_within o es node f.0
 
 -- ---- the moves, one by one
 
@@ -178,7 +159,7 @@ after_ack o ms es version node f applied h = record {
   served = λ i way on read away.
       let there = (under_parts es i way).0 in
       let on_before : fetches o es i node ≡ true = sym (fetch_stays o es (Acked version) i node f there) ∙ on in
-      h.served i way on_before read (stays (and_cases (is_resident o es node) (not (departs o es version node)) away) (covers o es i node way on_before));
+      h.served i way on_before read (stays (and_cases (is_resident o es node) (not (departs o es version node)) away) (covers o es i node there (under_parts es i way).1 on_before));
 }
   where
     leaves : (is_resident o es node ≡ false) ⊎ (not (departs o es version node) ≡ false) → server_version ms node ≡ newest_version es node

@@ -14,11 +14,11 @@ use Rattle.tao_model.specs.Trace.{nodes_in, again_of}
 use Rattle.tao_model.specs.Lawful.{FollowsLawfully, OwesNone}
 use Rattle.tao_model.specs.Shapes.{steps_of}
 use Rattle.tao_model.proofs.FallingPaths.{has}
+use Rattle.tao_model.proofs.NewestWrites.{newest_within}
 use Rattle.tao_laws.proofs.WrittenNodes.{issued_from}
+use Rattle.tao_laws.proofs.RecentNodes.{bucket_in}
 use Rattle.tao_schedule.specs.Moves.{Move, Arrives, Serves, Completes, Applies, Acknowledges, nodes_issued, seen, is_served, is_applied}
 use Rattle.tao_schedule.specs.Schedules.{Goes, IsSchedule, TakesIn}
-use Rattle.tao_schedule.proofs.ServerVersions.{newest_within}
-use Rattle.tao_laws.proofs.RecentNodes.{bucket_in}
 
 -- ---- events without contents
 

@@ -6,12 +6,12 @@ use Rattle.tao_base.specs.declared.session.Event.{Event}
 use Rattle.tao_base.specs.Session.{Opening}
 use Rattle.tao_model.specs.Events.{arrived, dones, issues, acks, is_under_way, is_outstanding}
 use Rattle.tao_model.specs.Lawful.{FollowsLawfully}
+use Rattle.tao_laws.specs.Counted.{IsAllAcked}
 use Rattle.tao_text.specs.declared.script.What.{What}
 use Rattle.tao_schedule.specs.Moves.{Move, Applies, Acknowledges, nodes_issued}
 use Rattle.tao_schedule.specs.Schedules.{IsSchedule, GoOn}
 use Rattle.tao_schedule.specs.Steps.{AreParts}
 use Rattle.tao_schedule.specs.Alike.{AreAlike}
-use Rattle.tao_laws.specs.Counted.{IsAllAcked}
 
 -- for each arrival under way, rising: all its reads and its Done
 unfoldable pub drain_parts : List Event → List What

@@ -15,20 +15,15 @@ use Rattle.tao_model.specs.Lawful.{FollowsLawfully}
 use Rattle.tao_model.proofs.Stays.{newest_first}
 use Rattle.tao_model.proofs.Places.{done_arrived}
 use Rattle.tao_model.proofs.Growth.{IsLeading, leading_is}
+use Rattle.tao_model.proofs.LawfulToWhole.{arrived_within}
+use Rattle.tao_laws.proofs.CountedWork.{acked_known, work_from, shifted}
 use Rattle.tao_sequence.specs.Release.{is_done_in}
+use Rattle.tao_sequence.proofs.Flags.{raised}
 use Rattle.tao_tables.specs.Flags.{TellsFlags, IsFree, FlagsAreTold, FlagsAtStart, ReleasedByFlags, AckedByFlags}
 use Rattle.tao_tables.specs.Tags.{TellsTags, ReplacesTags, TagsAreTold, TagsAtStart}
 use Rattle.tao_tables.proofs.WrittenTables.{newest_write_is}
-use Rattle.tao_laws.proofs.CountedWork.{acked_known, arrived_within, work_from, shifted}
 
 -- ---- flags
-
-raised : (flags : List Bool) (i j : ℕ) → i < length flags → is_done_in (set flags i true) j ≡ (nat_eq i j || is_done_in flags j)
-raised flags i j low = either (cases_eq j i)
-  where
-    either : (j ≡ i) ⊎ (j ≡ i → ⊥) → get_or (set flags i true) j false ≡ (nat_eq i j || is_done_in flags j)
-    either (inl same) = ap (λ k. get_or (set flags i true) k false) same ∙ get_or-set_same flags i true false low ∙ sym (ap (λ t. t || is_done_in flags j) (eq-eqb i j (sym same)))
-    either (inr other) = get_or-set_other flags i j true false other ∙ sym (ap (λ t. t || is_done_in flags j) (ne_eqb i j (λ same. other (sym same))))
 
 done_is_free : (o : Opening) (es : List Event) (i : ℕ) (taken : List Bucket) (flags marks : List Bool) → TellsFlags o es flags marks → FollowsLawfully o (Done i taken ∷ es) → IsFree flags i
 done_is_free o es i taken flags marks tells f =

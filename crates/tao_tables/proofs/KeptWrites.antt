@@ -18,10 +18,11 @@ use Rattle.tao_model.specs.WholeRecords.{IsAt}
 use Rattle.tao_model.proofs.Stays.{newest_first}
 use Rattle.tao_model.proofs.FallingPaths.{has, on_path_has}
 use Rattle.tao_model.proofs.LawfulToWhole.{paced}
+use Rattle.tao_model.proofs.NewestWrites.{newest_within}
 use Rattle.tao_laws.proofs.Listings.{has_filter, has_range, range_has}
 use Rattle.tao_laws.proofs.RecentNodes.{touch_within, recent_from, leaf_low, fetched_in_tree}
-use Rattle.tao_tables.specs.WriteBacks.{IsIssueAt, TellsWrites, PutsPath, WritesAreTold, WritesAtStart, RecentIsShort, IssueMayFollow}
 use Rattle.tao_laws.proofs.CountedWork.{owed_once}
+use Rattle.tao_tables.specs.WriteBacks.{IsIssueAt, TellsWrites, PutsPath, WritesAreTold, WritesAtStart, RecentIsShort, IssueMayFollow}
 use Rattle.tao_tables.proofs.RisingLists.{one_rising_list, part_rises, path_rises}
 
 -- ---- the recent nodes
@@ -148,19 +149,6 @@ most_few len d m k most low owed = let up : (d - m) * most ≤ k * most = mul-le
 room_few : (len d m k most : ℕ) → len ≤ (d - m) * most → m ≤ d → d < m + k → len + most ≤ k * most
 room_few len d m k most low le owes = let up : (d - m + 1) * most ≤ k * most = mul-le-mul_right most (omega arith) in omega arith
 
--- no node has a version that was not issued
-pub version_within : (o : Opening) (es : List Event) (w : ℕ) → FollowsLawfully o es → newest_version es w ≤ issues es
-version_within o [] w f = omega arith
-version_within o (Arrive client op word ∷ es) w f = version_within o es w f.0
-version_within o (Done arrival taken ∷ es) w f = version_within o es w f.0
-version_within o (Issue version nonce buckets ∷ es) w f = either (is_some (bucket_of w buckets)) (version_within o es w f.0) f.2.next
-  where
-    either : (t : Bool) → newest_version es w ≤ issues es → version ≡ issues es + 1 → cond t version (newest_version es w) ≤ issues es + 1
-    either true ih next = omega arith
-    either false ih next = omega arith
-version_within o (Acked version ∷ es) w f = version_within o es w f.0
-version_within o (Fault cause ∷ es) w f = version_within o es w f.0
-
 less_from : (m n : ℕ) → nat_lt m n ≡ true → m < n
 less_from m n is = either (cases_lt m n)
   where
@@ -177,7 +165,7 @@ recent_is_short o events f = record {
       (omega (arith, place.0), omega (arith, place.1));
   held = λ w there. recent_from o (reverse events) w f (less_from (issues (reverse events) * o.shape.k) (last_touch o (reverse events) w)
       (and_parts (recent w) (has w (range_with_len 1 (node_count o.shape.l))) (sym (has_filter recent w (range_with_len 1 (node_count o.shape.l))) ∙ there)).0);
-  older = λ w. version_within o (reverse events) w f;
+  older = λ w. newest_within o (reverse events) w f;
   few = few_from o (reverse events) f;
   fits = most_few (length (filter recent (range_with_len 1 (node_count o.shape.l)))) (dones (reverse events)) (issues (reverse events) * o.shape.k) o.shape.k (o.shape.l + 1)
       (few_from o (reverse events) f) (split (dones (reverse events)) (issues (reverse events)) o.shape.k (owed_once o (reverse events) f));

@@ -19,13 +19,13 @@ use Rattle.tao_base.specs.Buckets.{IsInForm}
 use Rattle.tao_model.specs.Lawful.{FollowsLawfully, MayBeDone}
 use Rattle.tao_model.proofs.Stays.{newest_first}
 use Rattle.tao_model.proofs.Places.{done_arrived, leaf_stays_later}
-use Rattle.tao_laws.specs.Counted.{count_below}
 use Rattle.tao_held.specs.Steps.{take_in, found_copy, value_or_zeros}
 use Rattle.tao_held.specs.Held.{held, after_fetch, found_in, block_on, value_since}
 use Rattle.tao_held.specs.HeldLaws.{AreIdsBelow}
-use Rattle.tao_laws.proofs.Counts.{count_same, count_within, count_less, any_counts}
 use Rattle.tao_held.proofs.Blocks.{real_on, on_below}
 use Rattle.tao_held.proofs.AlikeContents.{take_in_same, fetched_alike}
+use Rattle.tao_laws.specs.Counted.{count_below}
+use Rattle.tao_laws.proofs.Counts.{count_same, count_within, count_less, any_counts}
 use Rattle.tao_tables.specs.Tables.{cover_count, TellsNodes, TellsArrive, MovesTables, TellsDone, TellsIssue, TellsAcked, TellsFault, TellsStart, CoverIsBounded}
 
 -- ---- an arrival

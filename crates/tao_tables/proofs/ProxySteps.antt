@@ -5,8 +5,8 @@ use Rattle.tao_model.specs.Events.{dones, issues}
 use Rattle.tao_model.specs.Lawful.{FollowsLawfully}
 use Rattle.tao_model.proofs.LawfulToWhole.{follows_opening}
 use Rattle.tao_model.proofs.Stays.{newest_first}
-use Rattle.tao_tables.specs.Proxies.{ProxyGoesOn, FollowsOn, OwesInTurn}
 use Rattle.tao_laws.proofs.CountedWork.{owed_once}
+use Rattle.tao_tables.specs.Proxies.{ProxyGoesOn, FollowsOn, OwesInTurn}
 
 pub proxy_goes_on : ProxyGoesOn
 proxy_goes_on o events is = record {

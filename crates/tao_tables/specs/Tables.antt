@@ -15,10 +15,10 @@ use Rattle.tao_model.specs.Placement.{entries_at}
 use Rattle.tao_model.specs.Evictions.{load_contents}
 use Rattle.tao_model.specs.Lawful.{FollowsLawfully}
 use Rattle.tao_model.specs.OneMore.{with_one_more}
-use Rattle.tao_laws.specs.Counted.{count_below}
 use Rattle.tao_held.specs.Steps.{take_in, found_copy, value_or_zeros}
 use Rattle.tao_held.specs.Held.{held, after_fetch, block_on, value_since}
 use Rattle.tao_held.specs.HeldLaws.{AreIdsBelow}
+use Rattle.tao_laws.specs.Counted.{count_below}
 
 -- how many fetches under way have the node on their path
 abbrev pub cover_count : Opening → List Event → ℕ → ℕ

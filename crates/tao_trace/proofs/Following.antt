@@ -14,6 +14,7 @@ use Rattle.tao_model.specs.Lawful.{FollowsLawfully, IsOpening}
 use Rattle.tao_model.specs.OneMore.{AfterArrive}
 use Rattle.tao_model.proofs.OneMoreEvent.{one_more_arrive}
 use Rattle.tao_model.proofs.Stays.{newest_first}
+use Rattle.tao_model.proofs.PlainArrays.{length_step}
 use Rattle.tao_trace.specs.Printing.{events_before, lines_at, first_lines}
 use Rattle.tao_trace.specs.Tables.{IsNext}
 
@@ -54,14 +55,9 @@ after_arrive o es client op word f =
     told : reverse (reverse es ++ Arrive client op word ∷ []) ≡ Arrive client op word ∷ reverse (reverse es)
     told = newest_first (reverse es) (Arrive client op word)
 
-step_len : (blocks : List (List ℕ)) (op : Op) → length (array_step blocks op) ≡ length blocks
-step_len blocks (Read id) = refl
-step_len blocks (Write id value) = length-set blocks id value
-step_len blocks Pad = refl
-
 pub array_len : (o : Opening) (es : List Event) → length (array_now o es) ≡ length o.first
 array_len o [] = refl
-array_len o (Arrive client op word ∷ es) = step_len (array_now o es) op ∙ array_len o es
+array_len o (Arrive client op word ∷ es) = length_step (array_now o es) op ∙ array_len o es
 array_len o (Done arrival taken ∷ es) = array_len o es
 array_len o (Issue version nonce buckets ∷ es) = array_len o es
 array_len o (Acked version ∷ es) = array_len o es

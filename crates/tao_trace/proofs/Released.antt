@@ -12,17 +12,10 @@ use Rattle.tao_model.specs.Replies.{released}
 use Rattle.tao_model.specs.Lawful.{FollowsLawfully}
 use Rattle.tao_model.proofs.Places.{done_arrived}
 use Rattle.tao_model.proofs.Growth.{IsLeading, leading_is, leading_grows}
+use Rattle.tao_model.proofs.LawfulToWhole.{arrived_within}
 use Rattle.tao_sequence.specs.Release.{is_done_in, IsReleased}
 use Rattle.tao_sequence.proofs.Flags.{raised}
 use Rattle.tao_trace.specs.Tables.{AreFlags}
-
-arrived_within : (o : Opening) (es : List Event) → FollowsLawfully o es → arrived es ≤ session_limit o.shape
-arrived_within o [] f = omega arith
-arrived_within o (Arrive client op word ∷ es) f = let room = f.2.1 in omega arith
-arrived_within o (Done arrival taken ∷ es) f = arrived_within o es f.0
-arrived_within o (Issue version nonce buckets ∷ es) f = arrived_within o es f.0
-arrived_within o (Acked version ∷ es) f = arrived_within o es f.0
-arrived_within o (Fault cause ∷ es) f = arrived_within o es f.0
 
 -- an arrival that may be done has a flag
 pub has_flag : (o : Opening) (es : List Event) (arrival : ℕ) (taken : List Bucket) (flags : List Bool) → AreFlags o es flags → FollowsLawfully o (Done arrival taken ∷ es) → arrival < length flags
