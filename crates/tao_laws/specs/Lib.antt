@@ -6,3 +6,4 @@ pub mod Retold
 pub mod SettledValues
 pub mod TapeWords
 pub mod TwoPlays
+pub mod WorkedCounts

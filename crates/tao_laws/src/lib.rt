@@ -9,6 +9,7 @@ mod residents;
 mod retold;
 mod tape_words;
 mod two_plays;
+mod worked_counts;
 
 pub use counted::{acks_are_counted, quiet_is_counted, work_is_counted};
 pub use honest_fetches::{unaltered_by_test, unaltered_means};
@@ -26,3 +27,4 @@ pub use tape_words::{distinct_words, lawful_is_in_range, words_are_known};
 pub use two_plays::{
     equal_traces, kinds_need_no_word, leaves_tell_traces, permutation_is_one_to_one,
 };
+pub use worked_counts::{counts_are_told, retold_is_told};

@@ -1,5 +1,5 @@
 -- What a proxy keeps of its write-backs, under one more event. The events `es` are newest first.
-use Rattle.std.proofs.Common.{◌≡◌, ℕ, zero, suc, ◌+◌, ◌-◌, ◌*◌, ◌<◌, ◌≤◌, Bool, true, false, ◌&&◌, ◌||◌, cond, List, [], ◌∷◌, ◌++◌, filter, reverse, length, get_or, is_some, refl, sym, ap, ◌∙◌, subst, arith, inl, inr, ◌⊎◌, nat_lt, mul-le-mul_right}
+use Rattle.std.proofs.Common.{◌≡◌, ℕ, zero, suc, ◌+◌, ◌-◌, ◌*◌, ◌<◌, ◌≤◌, Bool, true, false, ◌&&◌, ◌||◌, cond, List, [], ◌∷◌, ◌++◌, filter, reverse, length, get_or, refl, sym, ap, ◌∙◌, subst, arith, inl, inr, ◌⊎◌, nat_lt, mul-le-mul_right}
 use Rattle.std.specs.List.{range_with_len}
 use Rattle.std.proofs.lemmas.Bool.{cases_lt, lt-ltb, le-ltb, and_parts, true≢false}
 use Rattle.std.proofs.lemmas.List.{length-append, length-map, get_or_append_left, get_or_push}
@@ -12,7 +12,7 @@ use Rattle.tao_base.specs.Session.{Opening}
 use Rattle.tao_base.specs.Tree.{node_count, node_at, path, is_on_path}
 use Rattle.tao_model.specs.Events.{dones, issues, acks, buckets_issued}
 use Rattle.tao_model.specs.Requests.{fetches, fetched_leaf}
-use Rattle.tao_model.specs.Residence.{last_touch, bucket_of, newest_version}
+use Rattle.tao_model.specs.Residence.{last_touch}
 use Rattle.tao_model.specs.Lawful.{FollowsLawfully, touched_after}
 use Rattle.tao_model.specs.WholeRecords.{IsAt}
 use Rattle.tao_model.proofs.Stays.{newest_first}

@@ -1,13 +1,11 @@
 -- What a prefix of a lawful record is, the next event, and the laws over it. The events `es` are newest first.
 use Rattle.std.proofs.Common.{◌≡◌, ℕ, ◌+◌, ◌<◌, List, [], ◌∷◌, ◌++◌, length, reverse, take, drop, get_or, refl, sym, ap, ◌∙◌, subst, add-one}
 use Rattle.std.proofs.Math.Seq.{take-suc, drop-cons}
-use Rattle.std.proofs.lemmas.List.{reverse-append, reverse-reverse, take-append-drop, length-set}
+use Rattle.std.proofs.lemmas.List.{reverse-append, reverse-reverse, take-append-drop}
 use Rattle.tao_base.specs.declared.calls.Op.{Op}
-use Rattle.tao_base.specs.declared.calls.Op.TheVariants.{Read, Write, Pad}
 use Rattle.tao_base.specs.declared.session.Event.{Event}
 use Rattle.tao_base.specs.declared.session.Event.TheVariants.{Arrive, Done, Issue, Acked, Fault}
 use Rattle.tao_base.specs.Session.{Opening, History}
-use Rattle.tao_base.specs.Array.{array_step}
 use Rattle.tao_model.specs.Replies.{array_now}
 use Rattle.tao_model.specs.Transcript.{event_lines}
 use Rattle.tao_model.specs.Lawful.{FollowsLawfully, IsOpening}

@@ -4,7 +4,7 @@ use Rattle.std.proofs.lemmas.Bool.{cases_lt, true≢false}
 use Rattle.std.proofs.lemmas.List.{length-set, length-replicate, get_or-replicate, get_or_past}
 use Rattle.tao_base.specs.declared.storage.Bucket.{Bucket}
 use Rattle.tao_base.specs.declared.session.Event.{Event}
-use Rattle.tao_base.specs.declared.session.Event.TheVariants.{Arrive, Done, Issue, Acked, Fault}
+use Rattle.tao_base.specs.declared.session.Event.TheVariants.{Done}
 use Rattle.tao_base.specs.Limits.{session_limit}
 use Rattle.tao_base.specs.Session.{Opening}
 use Rattle.tao_model.specs.Events.{arrived, is_done}
@@ -13,7 +13,7 @@ use Rattle.tao_model.specs.Lawful.{FollowsLawfully}
 use Rattle.tao_model.proofs.Places.{done_arrived}
 use Rattle.tao_model.proofs.Growth.{IsLeading, leading_is, leading_grows}
 use Rattle.tao_model.proofs.LawfulToWhole.{arrived_within}
-use Rattle.tao_sequence.specs.Release.{is_done_in, IsReleased}
+use Rattle.tao_sequence.specs.Release.{IsReleased}
 use Rattle.tao_sequence.proofs.Flags.{raised}
 use Rattle.tao_trace.specs.Tables.{AreFlags}
 
