@@ -1,3 +1,4 @@
+pub mod DoorLemmas
 pub mod AnswerLemmas
 pub mod ImageLemmas
 pub mod NoteLemmas

@@ -1,3 +1,4 @@
+pub mod Doors
 pub mod Forging
 pub mod Ledgers
 pub mod Nodes

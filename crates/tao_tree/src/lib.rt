@@ -5,9 +5,11 @@ mod answers;
 mod forgeries;
 mod laws;
 mod ledger;
+mod mem_doors;
 mod mem_link;
 mod paths;
 mod planted;
+mod rack;
 mod shared;
 mod stream_link;
 #[cfg(test)]
@@ -17,8 +19,10 @@ mod tree_link;
 
 pub use forgeries::Forgery;
 pub use laws::newest_stays;
+pub use mem_doors::{FailTable, MemDoors};
 pub use mem_link::MemLink;
 pub use planted::Shaped;
+pub use rack::Streams;
 pub use shared::SharedTree;
 pub use stream_link::StreamLink;
 pub use tree::Tree;

@@ -78,6 +78,14 @@ impl<'t, J: Shaped> MemLink<'t, J> {
         self.ledger.reserve(self.alloc, calls, nodes)
     }
 
+    /// The same link with these forgeries.
+    pub(crate) fn with_forgeries(mut self, forgeries: Items<Forgery>) -> MemLink<'t, J>
+        ensures { result ≡ record self.entry { forgeries = forgeries } }
+    {
+        self.forgeries = forgeries;
+        self
+    }
+
     /// From now on byte `at` of the path that answers call number `call` is xored with the mask. The tree isn't touched.
     pub fn forge(&mut self, call: u32, at: u32, mask: u8) -> Result<(), NoMemory>
         ensures ok { OnOk result (self.new ≡ record self.old { forgeries = self.old.forgeries ++ record { call = call; at = at; mask = mask } ∷ [] }) }
