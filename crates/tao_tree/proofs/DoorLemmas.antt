@@ -8,7 +8,7 @@ use Rattle.tao_base.specs.Doors.{IsNewLink}
 use Rattle.tao_base.specs.Limits.{Shape, bucket_len}
 use Rattle.tao_base.specs.Links.{told}
 use Rattle.tao_base.specs.Tree.{node_count}
-use Rattle.tao_tree.specs.Doors.{RackState, StreamPair, leads_to}
+use Rattle.tao_tree.specs.Doors.{RackState, StreamPair, leads_to, without_first}
 use Rattle.tao_tree.specs.Forging.{LinkState}
 use Rattle.tao_tree.specs.Nodes.{reach_of}
 
@@ -21,13 +21,13 @@ first_waits (x ∷ xs) (suc n) = first_waits xs n
 -- the first stream that waits is taken out of its place
 pub next_taken : (a r : ℕ) (xs ys : List StreamPair) (old : RackState) (blank : StreamPair)
     → record { accepted = a; returned = r; waiting = drop a xs; back = take r xs } ≡ old → r ≤ a → ys ≡ slice_set xs a blank
-    → record { accepted = a + 1; returned = r; waiting = drop (a + 1) ys; back = take r ys } ≡ record old { accepted = old.accepted + 1; waiting = drop 1 old.waiting }
+    → record { accepted = a + 1; returned = r; waiting = drop (a + 1) ys; back = take r ys } ≡ without_first old
 next_taken a r xs ys old blank view within set =
     let waiting : drop (a + 1) ys ≡ drop 1 (drop a xs) = ap (drop (a + 1)) set ∙ drop-set-lt (a + 1) xs a blank (omega arith) ∙ sym (drop-drop 1 a xs) in
     let back : take r ys ≡ take r xs = ap (take r) set ∙ take-set-le r xs a blank within in
     let whole : record { accepted = a + 1; returned = r; waiting = drop (a + 1) ys; back = take r ys } ≡ record { accepted = a + 1; returned = r; waiting = drop 1 (drop a xs); back = take r xs } =
     ap₂ (λ (w b : List StreamPair). let taken : RackState = record { accepted = a + 1; returned = r; waiting = w; back = b } in taken) waiting back in
-    whole ∙ ap (λ (o : RackState). let taken : RackState = record o { accepted = o.accepted + 1; waiting = drop 1 o.waiting } in taken) view
+    whole ∙ ap without_first view
 
 -- a tree that is no lower has more nodes only where it is higher
 pub no_higher : (a b : ℕ) → node_count b ≤ node_count a → a < b → ⊥

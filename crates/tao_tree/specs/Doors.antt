@@ -1,5 +1,5 @@
 -- Doors in memory: the streams at their places, the links that are dialled, and what calls fail.
-use Rattle.std.specs.Prelude.{◌≡◌, ◌⊎◌, ℕ, ◌&&◌, Bool, false, nat_eq, List, [], map, Option, Some, Contains}
+use Rattle.std.specs.Prelude.{◌≡◌, ◌⊎◌, ℕ, ◌+◌, ◌&&◌, Bool, false, nat_eq, List, [], ◌∷◌, ◌++◌, map, drop, slice_get, Option, Some, Contains}
 use Rattle.std.specs.List.{filter, find}
 use Rattle.std.specs.Option.{option_map}
 use Rattle.tao_base.specs.Doors.{Handed}
@@ -28,11 +28,14 @@ under number table = map (λ e. e.1) (filter (λ e. nat_eq e.0 number) table)
 abbrev pub first_under : {X : Type 0} → ℕ → List (ℕ × X) → Option X
 first_under number table = option_map (λ e. e.1) (find (λ e. nat_eq e.0 number) table)
 
--- The tree's parameters; what was handed out and given back; which calls fail, the forgeries, and the capacity of a link's log in calls and
--- in buckets of stores; how many calls of `listen` and `accept` there were, and how many calls failed.
+-- The tree's parameters; the links that are out, and those given back with their numbers; the streams as on a rack; which calls fail, the
+-- forgeries, and the capacity of a link's log in calls and in buckets of stores; how many calls of `listen` and `accept` there were, and
+-- how many calls failed.
 pub record DoorsState : Type 0 where
   pub shape : Shape
-  pub handed : Handed LinkState StreamPair
+  pub links_out : ℕ
+  pub hung : List (ℕ × LinkState)
+  pub rack : RackState
   pub fails : List (ℕ × ℕ)
   pub forgeries : List (ℕ × Forgery)
   pub calls : ℕ
@@ -41,11 +44,40 @@ pub record DoorsState : Type 0 where
   pub accepts : ℕ
   pub faults : ℕ
 
+-- what these doors tell as all doors do
+abbrev pub handed_by : DoorsState → Handed LinkState StreamPair
+handed_by d = record {
+  links_out = d.links_out;
+  accepted = d.rack.accepted;
+  returned = d.rack.returned;
+  hung = Some d.hung;
+  waiting = Some d.rack.waiting;
+  back = Some d.rack.back;
+}
+
+-- a rack on which all streams wait
+abbrev pub new_rack : List StreamPair → RackState
+new_rack streams = record { accepted = 0; returned = 0; waiting = streams; back = [] }
+
+-- the first stream that waits is handed out
+abbrev pub without_first : RackState → RackState
+without_first r = record r { accepted = r.accepted + 1; waiting = drop 1 r.waiting }
+
+-- a stream is back at the next place
+abbrev pub with_back : RackState → StreamPair → RackState
+with_back r stream = record r { returned = r.returned + 1; back = r.back ++ stream ∷ [] }
+
+-- the sink of the stream that is back at this place
+abbrev pub sink_at : RackState → ℕ → Option SinkState
+sink_at r place = option_map (λ stream. stream.1) (slice_get r.back place)
+
 -- new doors: no link is out, and all streams wait
 abbrev pub new_doors : Shape → List StreamPair → List (ℕ × ℕ) → ℕ → ℕ → DoorsState
 new_doors s streams fails calls nodes = record {
   shape = s;
-  handed = record { links_out = 0; accepted = 0; returned = 0; hung = Some []; waiting = Some streams; back = Some [] };
+  links_out = 0;
+  hung = [];
+  rack = new_rack streams;
   fails = fails;
   forgeries = [];
   calls = calls;

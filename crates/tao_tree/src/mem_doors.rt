@@ -1,11 +1,11 @@
 //! Doors in memory, whose links lead to a tree and whose streams are given beforehand.
-ghost use Rattle.std.specs.Prelude.{◌≡◌, ◌↔◌, ◌<◌, [], ◌∷◌, ◌++◌, slice_get, Some, IfSome, IfOk, OnOk, OnErr, IsErr, IsTrue, Contains};
-ghost use Rattle.std.specs.Option.{option_map, option_copied};
+ghost use Rattle.std.specs.Prelude.{◌≡◌, ◌↔◌, ◌<◌, [], ◌∷◌, ◌++◌, Some, IfOk, IsSome, OnOk, OnErr, IsErr, IsTrue, Contains};
+ghost use Rattle.std.specs.Option.{option_copied};
 ghost use Rattle.std.specs.Result.{result_err};
 ghost use Rattle.tao_base.specs.Causes.{HasCause, one_more};
 ghost use Rattle.tao_base.specs.Doors.{HasDoorCause, IsNewLink, AnswersFirst, after_dial, after_accept, after_hang_up, after_give_back};
 ghost use Rattle.tao_base.specs.declared.doors.DoorFault.TheVariants.{Failed as DoorFailed};
-ghost use Rattle.tao_tree.specs.Doors.{under, first_under, leads_to, link_of, CannotDial};
+ghost use Rattle.tao_tree.specs.Doors.{handed_by, sink_at, under, first_under, leads_to, link_of, CannotDial};
 ghost use Rattle.tao_tree.specs.Nodes.{reach_of};
 
 use crate::forgeries::Forgery;
@@ -45,21 +45,16 @@ pub struct MemDoors<'t, J: Shaped> {
 }
 
 impl<'t, J: Shaped> Model for MemDoors<'t, J> {
-    ghost use Rattle.std.specs.Prelude.{◌≤◌, ◌+◌, Some, vec_len, vec_capacity};
+    ghost use Rattle.std.specs.Prelude.{◌≤◌, ◌+◌, vec_len, vec_capacity};
     ghost use Rattle.tao_tree.specs.Doors.{DoorsState};
 
     ghost Value = { DoorsState };
 
     ghost view = { λ d. record {
       shape = d.tree.now;
-      handed = record {
-        links_out = d.out;
-        accepted = d.rack.accepted;
-        returned = d.rack.returned;
-        hung = Some d.hung.items;
-        waiting = Some d.rack.waiting;
-        back = Some d.rack.back;
-      };
+      links_out = d.out;
+      hung = d.hung.items;
+      rack = d.rack;
       fails = d.fails;
       forgeries = d.forgeries;
       calls = d.calls;
@@ -111,14 +106,15 @@ impl<'t, J: Shaped> MemDoors<'t, J> {
 
     /// The first link that was hung up under this number.
     pub fn link(&self, link: u32) -> Option<&MemLink<'t, J>>
-        ensures { IfSome self.now.handed.hung (λ hung. option_copied result ≡ first_under link hung) }
+        ensures { option_copied result ≡ first_under link self.now.hung }
     {
         first_under(&self.hung, link)
     }
 
     /// The sink of the stream that was given back as the connection of this number.
     pub fn back(&self, number: u32) -> Option<&ByteSink>
-        ensures { IfSome self.now.handed.back (λ back. option_copied result ≡ option_map (λ stream. stream.1) (slice_get back number)) }
+        ensures sink { option_copied result ≡ sink_at self.now.rack number }
+        ensures some { IsSome result ↔ number < self.now.rack.returned }
     {
         self.rack.back(number as usize)
     }
@@ -149,7 +145,7 @@ impl<'t, J: Shaped + Send + Sync> Doors for MemDoors<'t, J> {
 
     ghost faults = { λ d. d.faults };
 
-    ghost handed = { λ d. d.handed };
+    ghost handed = { handed_by };
 
     fn dial(
         &mut self,
@@ -160,10 +156,10 @@ impl<'t, J: Shaped + Send + Sync> Doors for MemDoors<'t, J> {
     ) -> Result<MemLink<'t, J>, DoorFault>
         ensures cause { HasDoorCause self.old.faults self.new.faults result }
         ensures near { IfOk result (IsNewLink (λ near. reach_of near.shape) (λ near. near.faults) (λ near. Some near.told) p.now) }
-        ensures handed { self.new.handed ≡ after_dial self.old.handed result }
+        ensures handed { handed_by self.new ≡ after_dial (handed_by self.old) result }
         ensures fails { result_err result ≡ Some DoorFailed ↔ CannotDial self.old p.now link }
         ensures link { IfOk result (λ near. near ≡ link_of self.old link) }
-        ensures rest { self.new ≡ record self.old { handed = self.new.handed; faults = self.new.faults } }
+        ensures rest { self.new ≡ record self.old { links_out = self.new.links_out; faults = self.new.faults } }
     {
         if self.refuses(p, link) {
             self.faults = self.faults.saturating_add(1);
@@ -184,7 +180,7 @@ impl<'t, J: Shaped + Send + Sync> Doors for MemDoors<'t, J> {
 
     fn listen(&mut self, _address: &str) -> Result<(), Failed>
         ensures cause { HasCause self.old.faults self.new.faults result }
-        ensures handed { self.new.handed ≡ self.old.handed }
+        ensures handed { handed_by self.new ≡ handed_by self.old }
         ensures fails { IsErr result ↔ Contains self.old.fails (300, self.old.listens) }
         ensures rest { self.new ≡ record self.old { listens = one_more self.old.listens; faults = self.new.faults } }
     {
@@ -199,10 +195,10 @@ impl<'t, J: Shaped + Send + Sync> Doors for MemDoors<'t, J> {
 
     fn accept(&mut self) -> Result<Option<(ByteSource, ByteSink)>, Failed>
         ensures cause { HasCause self.old.faults self.new.faults result }
-        ensures first { AnswersFirst self.old.handed.waiting result }
-        ensures handed { self.new.handed ≡ after_accept self.old.handed result }
+        ensures first { AnswersFirst (handed_by self.old).waiting result }
+        ensures handed { handed_by self.new ≡ after_accept (handed_by self.old) result }
         ensures fails { IsErr result ↔ Contains self.old.fails (301, self.old.accepts) }
-        ensures rest { self.new ≡ record self.old { handed = self.new.handed; accepts = one_more self.old.accepts; faults = self.new.faults } }
+        ensures rest { self.new ≡ record self.old { rack = self.new.rack; accepts = one_more self.old.accepts; faults = self.new.faults } }
     {
         let call = self.accepts;
         self.accepts = call.saturating_add(1);
@@ -214,21 +210,21 @@ impl<'t, J: Shaped + Send + Sync> Doors for MemDoors<'t, J> {
     }
 
     fn hang_up(&mut self, link: u32, near: MemLink<'t, J>)
-        requires { 0 < self.old.handed.links_out }
+        requires { 0 < self.old.links_out }
         ensures faults { self.new.faults ≡ self.old.faults }
-        ensures handed { self.new.handed ≡ after_hang_up self.old.handed link near.entry }
-        ensures rest { self.new ≡ record self.old { handed = self.new.handed } }
+        ensures handed { handed_by self.new ≡ after_hang_up (handed_by self.old) link near.entry }
+        ensures rest { self.new ≡ record self.old { links_out = self.new.links_out; hung = self.new.hung } }
     {
         self.out -= 1;
         self.hung.push_reserved((link, near));
     }
 
     fn give_back(&mut self, number: u32, stream: (ByteSource, ByteSink))
-        requires next { number ≡ self.old.handed.returned }
-        requires out { self.old.handed.returned < self.old.handed.accepted }
+        requires next { number ≡ self.old.rack.returned }
+        requires out { self.old.rack.returned < self.old.rack.accepted }
         ensures faults { self.new.faults ≡ self.old.faults }
-        ensures handed { self.new.handed ≡ after_give_back self.old.handed stream }
-        ensures rest { self.new ≡ record self.old { handed = self.new.handed } }
+        ensures handed { handed_by self.new ≡ after_give_back (handed_by self.old) stream }
+        ensures rest { self.new ≡ record self.old { rack = self.new.rack } }
     {
         self.rack.put_back(stream);
     }

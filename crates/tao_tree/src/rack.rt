@@ -1,6 +1,6 @@
 //! Streams in memory, each at its place: handed out in order, and taken back in order.
-ghost use Rattle.std.specs.Prelude.{◌≡◌, ◌+◌, ◌<◌, [], ◌∷◌, ◌++◌, length, drop, slice_get, slice_set, Some, None};
-ghost use Rattle.std.specs.Option.{option_map, option_copied};
+ghost use Rattle.std.specs.Prelude.{◌≡◌, ◌↔◌, ◌<◌, length, slice_get, slice_set, Some, None, IsSome};
+ghost use Rattle.std.specs.Option.{option_copied};
 
 use std::alloc::Global;
 use std::marker::Model;
@@ -31,8 +31,10 @@ impl Model for Rack {
 }
 
 impl Rack {
+    ghost use Rattle.tao_tree.specs.Doors.{new_rack, without_first, with_back, sink_at};
+
     pub(crate) fn new(alloc: Global, streams: Streams) -> Rack
-        ensures { result ≡ record { accepted = 0; returned = 0; waiting = streams; back = [] } }
+        ensures { result ≡ new_rack streams }
     {
         Rack {
             alloc,
@@ -46,7 +48,7 @@ impl Rack {
     pub(crate) fn take_next(&mut self) -> Option<(ByteSource, ByteSink)>
         ensures first { result ≡ slice_get self.old.waiting 0 }
         ensures none { result ≡ None → self.new ≡ self.old }
-        ensures some { (stream : _) → result ≡ Some stream → self.new ≡ record self.old { accepted = self.old.accepted + 1; waiting = drop 1 self.old.waiting } }
+        ensures some { (stream : _) → result ≡ Some stream → self.new ≡ without_first self.old }
     {
         if self.streams.as_slice().len() <= self.accepted {
             return None;
@@ -59,7 +61,7 @@ impl Rack {
     /// Takes the next stream back to its place.
     pub(crate) fn put_back(&mut self, stream: (ByteSource, ByteSink))
         requires { self.old.returned < self.old.accepted }
-        ensures { self.new ≡ record self.old { returned = self.old.returned + 1; back = self.old.back ++ stream ∷ [] } }
+        ensures { self.new ≡ with_back self.old stream }
     {
         replace_at(&mut self.streams, self.returned, stream);
         self.returned += 1;
@@ -67,7 +69,8 @@ impl Rack {
 
     /// The sink of the stream that was taken back to this place.
     pub(crate) fn back(&self, place: usize) -> Option<&ByteSink>
-        ensures { option_copied result ≡ option_map (λ stream. stream.1) (slice_get self.now.back place) }
+        ensures sink { option_copied result ≡ sink_at self.now place }
+        ensures some { IsSome result ↔ place < self.now.returned }
     {
         if place < self.returned {
             Some(&self.streams.as_slice()[place].1)
