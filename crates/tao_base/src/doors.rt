@@ -9,6 +9,8 @@ use crate::parameters::Params;
 use crate::sinks::Sink;
 use crate::sources::Source;
 use std::alloc::Global;
+use std::error::Error;
+use std::fmt;
 
 /// A stream both ways. What it reads leaves the writing half as it is, and what it writes the reading half.
 pub trait Duplex: Source + Sink {
@@ -64,6 +66,17 @@ pub enum DoorFault {
     Failed,
     Memory,
 }
+
+impl fmt::Display for DoorFault {
+    fn fmt<W: fmt::Write>(&self, f: &mut fmt::Formatter<W>) -> fmt::Result {
+        match self {
+            DoorFault::Failed => write!(f, "the doors failed"),
+            DoorFault::Memory => write!(f, "out of memory"),
+        }
+    }
+}
+
+impl Error for DoorFault {}
 
 /// Where links to the server are dialled and streams of clients come in. Each is given back: a link under its number, streams in the
 /// order in which they were accepted.
