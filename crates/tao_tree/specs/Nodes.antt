@@ -2,9 +2,9 @@
 use Rattle.std.specs.Prelude.{◌≡◌, ℕ, ◌-◌, ◌*◌, ◌/◌, ◌%◌, ◌<◌, ◌≤◌, Bool, true, nat_lt, List, [], ◌∷◌, length, take, drop, fold, replicate, slice_set, Option, Some, None, if◌then◌else◌}
 use Rattle.std.specs.List.{flat_map, slice_index_or}
 use Rattle.std.specs.Option.{option_map}
-use Rattle.tao_base.specs.Limits.{Shape, bucket_len}
+use Rattle.tao_base.specs.Limits.{Shape, IsShape, bucket_len}
 use Rattle.tao_base.specs.Images.{bucket_in, buckets_in}
-use Rattle.tao_base.specs.Links.{Reach, header_node}
+use Rattle.tao_base.specs.Links.{Reach, IsReachFor, header_node}
 use Rattle.tao_base.specs.Tree.{node_count, path}
 
 -- what a node holds: the bytes of a bucket, and the version that they were applied with
@@ -104,3 +104,7 @@ pub record IsSomePath (s : Shape) (leaf : ℕ) (path : List ℕ) : Type 0 where
 -- what a link to a tree of these parameters reaches: a store may have as many buckets as the tree has nodes
 abbrev pub reach_of : Shape → Reach
 reach_of s = record { height = s.l; bucket_len = bucket_len s; most = node_count s.l }
+
+-- such a link is one for these parameters
+abbrev pub ReachFits : Type 0
+ReachFits = (s : Shape) → IsShape s → IsReachFor s (reach_of s)

@@ -1,12 +1,11 @@
 -- What a link over a stream gives and takes.
-use Rattle.std.specs.Prelude.{◌≡◌, ◌≢◌, ◌⊎◌, ℕ, ◌+◌, ◌*◌, ◌<◌, List, ◌++◌, length, min, max, Option}
+use Rattle.std.specs.Prelude.{◌≡◌, ◌≢◌, ◌⊎◌, ℕ, ◌+◌, ◌*◌, ◌<◌, List, ◌++◌, length, Option}
 use Rattle.std.specs.Io.KnownBytes.{Consumes, IsAtEnd}
 use Rattle.std.specs.Int.{w32, to_be_bytes}
 use Rattle.tao_base.specs.Causes.{Rose, one_more}
 use Rattle.tao_base.specs.Limits.{Shape, IsShape, bucket_len}
-use Rattle.tao_base.specs.Links.{Reach}
+use Rattle.tao_base.specs.Links.{Reach, IsReachFor, order_limit}
 use Rattle.tao_base.specs.Transfers.{PutsAll, PutsPart, ConsumesFewer}
-use Rattle.tao_base.specs.Tree.{node_count}
 use Rattle.tao_wire.specs.Frames.{frame}
 use Rattle.tao_wire.specs.declared.message.Message.{Message}
 use Rattle.tao_wire.specs.declared.message.Message.TheVariants.{Fetch, Path, Store, Stored}
@@ -24,7 +23,11 @@ path_len s = (s.l + 1) * bucket_len s
 
 -- a store may have as many buckets as a write-back or as a part of the load has, or as the tree has nodes
 abbrev pub stream_reach : Shape → Reach
-stream_reach s = record { height = s.l; bucket_len = bucket_len s; most = min (node_count s.l) (max 256 (s.k * (s.l + 1))) }
+stream_reach s = record { height = s.l; bucket_len = bucket_len s; most = order_limit s }
+
+-- such a link is one for these parameters
+abbrev pub StreamFits : Type 0
+StreamFits = (s : Shape) → IsShape s → IsReachFor s (stream_reach s)
 
 -- only a length field came, and it is another than that of so long a content
 abbrev pub IsOtherLength : ℕ → List ℕ → Type 0

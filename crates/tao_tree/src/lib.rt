@@ -18,7 +18,7 @@ mod tree;
 mod tree_link;
 
 pub use forgeries::Forgery;
-pub use laws::newest_stays;
+pub use laws::{newest_stays, reach_fits, stream_fits};
 pub use mem_doors::{FailTable, MemDoors};
 pub use mem_link::MemLink;
 pub use planted::Shaped;

@@ -1,7 +1,7 @@
 //! The tree alone, behind a lock, and over its links, with the smallest parameters.
-ghost use Rattle.std.specs.Prelude.{◌≡◌, ◌<◌, IfOk};
+ghost use Rattle.std.specs.Prelude.{◌≡◌, ◌<◌, ◌≤◌, IfOk};
 ghost use Rattle.tao_base.specs.Limits.{shape};
-ghost use Rattle.tao_base.specs.Links.{IsSendable};
+ghost use Rattle.tao_base.specs.Links.{IsSendable, header_node};
 ghost use Rattle.tao_base.specs.declared.parameters.Form.TheVariants.{One};
 ghost use Rattle.tao_tree.specs.Nodes.{reach_of};
 
@@ -14,6 +14,7 @@ use std::process::Abort;
 use std::sync::Wait;
 use std::test::Fail;
 use tao_base::{Failed, Image, Link, NoMemory, Numbers, Order, Params};
+use tao_bucket::node_of;
 
 pub(crate) const LEN: usize = 28;
 
@@ -40,24 +41,32 @@ pub(crate) fn joined(root: [u8; LEN], leaf: [u8; LEN]) -> [u8; 2 * LEN] {
     path
 }
 
+// The node in a bucket's header.
+fn node_in(rt: &impl Abort, bucket: &[u8; LEN]) -> u32
+    ensures value { result ≡ header_node bucket.now }
+    ensures low { 1 ≤ result }
+    ensures high { result ≤ 3 }
+{
+    let node = node_of(bucket);
+    assert!(rt; 1 <= node && node <= 3);
+    node
+}
+
 // An order of one bucket.
 pub(crate) fn order_of(
     rt: &impl Abort,
     alloc: Global,
     version: u32,
-    bucket: &[u8],
-) -> Result<Order, Fail>
+    bucket: [u8; LEN],
+) -> Result<Order, NoMemory>
     ensures { IfOk result (λ order. IsSendable (reach_of (shape 1 1 4 1 1 One)) order) }
 {
-    let p = small()?;
-    assert!(rt; bucket.len() == p.bucket_len() as usize);
-    let node = tao_bucket::node_of(bucket);
-    assert!(rt; 1 <= node && node <= p.nodes());
+    let node = node_in(rt, &bucket);
     Ok(Order {
         version,
         nonce: 7,
         nodes: Numbers::from_slice(alloc, &[node])?,
-        image: Image::from_slice(alloc, bucket)?,
+        image: Image::from_slice(alloc, &bucket)?,
     })
 }
 
@@ -66,19 +75,14 @@ pub(crate) fn order_of_two(
     rt: &impl Abort,
     alloc: Global,
     version: u32,
-    first: &[u8],
-    second: &[u8],
-) -> Result<Order, Fail>
+    first: [u8; LEN],
+    second: [u8; LEN],
+) -> Result<Order, NoMemory>
     ensures { IfOk result (λ order. IsSendable (reach_of (shape 1 1 4 1 1 One)) order) }
 {
-    let p = small()?;
-    let len = p.bucket_len() as usize;
-    assert!(rt; first.len() == len && second.len() == len);
-    let nodes = [tao_bucket::node_of(first), tao_bucket::node_of(second)];
-    assert!(rt; 1 <= nodes[0] && nodes[0] <= p.nodes());
-    assert!(rt; 1 <= nodes[1] && nodes[1] <= p.nodes());
-    let mut image = Image::from_slice(alloc, first)?;
-    image.extend_from_slice(second)?;
+    let nodes = [node_in(rt, &first), node_in(rt, &second)];
+    let mut image = Image::from_slice(alloc, &first)?;
+    image.extend_from_slice(&second)?;
     Ok(Order {
         version,
         nonce: 8,

@@ -20,6 +20,13 @@ fn answer_of(len: u8, kind: u8, id: u8) -> [u8; 69] {
     bytes
 }
 
+// The answer to a fetch of a path that is one byte shorter.
+fn shorter_answer() -> [u8; 68] {
+    let mut bytes = [7; 68];
+    bytes[..13].copy_from_slice(&[0, 0, 0, 64, 2, 0, 0, 0, 0, 0, 0, 0, 5]);
+    bytes
+}
+
 // Whether a fetch over this link was answered; the path then has only sevens.
 fn is_answered<L: Link, R: Abort + Wait>(rt: &R, link: &mut L) -> bool
     requires { L.reach link.old ≡ reach_of (shape 1 1 4 1 1 One) }
@@ -75,17 +82,28 @@ fn check_fetches<R: Abort + Wait>(
 }
 
 #[test]
-fn fetches_over_a_stream(rt: HostRuntime) -> Result<(), Fail> {
+fn answers_to_fetches(rt: HostRuntime) -> Result<(), Fail> {
     let alloc = rt.alloc();
     let good = answer_of(65, 2, 5);
-    let none: &[u8] = &[];
-    let shorter = &answer_of(64, 2, 5)[..68];
-    let stored: &[u8] = &[0, 0, 0, 5, 4, 0, 0, 0, 1];
     check_fetches(&rt, alloc, &good, &good, (true, true))?;
     check_fetches(&rt, alloc, &answer_of(65, 2, 6), &good, (false, true))?;
-    check_fetches(&rt, alloc, shorter, &good, (false, false))?;
-    check_fetches(&rt, alloc, stored, &good, (false, false))?;
-    check_fetches(&rt, alloc, &[0, 0, 0], none, (false, false))?;
+    check_fetches(&rt, alloc, &shorter_answer(), &good, (false, false))?;
+    Ok(())
+}
+
+// an acknowledgement, the end within a length field, and another length field
+#[test]
+fn other_frames(rt: HostRuntime) -> Result<(), Fail> {
+    let alloc = rt.alloc();
+    let good = answer_of(65, 2, 5);
+    check_fetches(
+        &rt,
+        alloc,
+        &[0, 0, 0, 5, 4, 0, 0, 0, 1],
+        &good,
+        (false, false),
+    )?;
+    check_fetches(&rt, alloc, &[0, 0, 0], &[], (false, false))?;
     check_fetches(&rt, alloc, &[2, 0, 0, 1], &good, (false, true))?;
     Ok(())
 }
@@ -106,14 +124,14 @@ fn stores_over_a_stream(rt: HostRuntime) -> Result<(), Fail> {
 // Three stores over a stream that gives these bytes, of which the first is acknowledged, and where they were written. There is no
 // capacity for the third.
 fn store_thrice<R: Abort + Wait>(rt: &R, alloc: Global, bytes: Image) -> Result<ByteSink, Fail> {
-    let order = order_of(rt, alloc, 2, &bucket(1, 10))?;
+    let order = order_of(rt, alloc, 2, bucket(1, 10))?;
     let source = ByteSource::new(bytes, Numbers::new(alloc));
     let mut sink = ByteSink::new(alloc, Numbers::new(alloc));
     sink.reserve(74)?;
     let mut link = StreamLink::new(alloc, &small()?, source, sink)?;
-    assert_eq!(rt; store(rt, &mut link, &order), Ok(()));
-    assert_eq!(rt; store(rt, &mut link, &order), Err(Failed));
-    assert_eq!(rt; store(rt, &mut link, &order), Err(Failed));
+    assert!(rt; store(rt, &mut link, &order).is_ok());
+    assert!(rt; store(rt, &mut link, &order).is_err());
+    assert!(rt; store(rt, &mut link, &order).is_err());
     let (_, sink) = link.into_parts();
     Ok(sink)
 }
