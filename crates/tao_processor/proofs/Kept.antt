@@ -1,9 +1,9 @@
 -- What one more event keeps of the invariant.
-use Rattle.std.proofs.Common.{◌≡◌, Bool, true, false, List, [], ◌∷◌, ◌++◌, reverse, refl, sym, ap, ◌∙◌, subst, ◌||◌}
+use Rattle.std.proofs.Common.{◌≡◌, false, List, [], ◌∷◌, ◌++◌, reverse, sym, ◌∙◌, subst}
 use Rattle.std.specs.List.{list_any}
 use Rattle.tao_base.specs.declared.session.Cause.{Cause}
 use Rattle.tao_base.specs.declared.session.Event.{Event}
-use Rattle.tao_base.specs.declared.session.Event.TheVariants.{Arrive, Done, Issue, Acked, Fault}
+use Rattle.tao_base.specs.declared.session.Event.TheVariants.{Fault}
 use Rattle.tao_base.specs.Session.{Opening, History, is_fault}
 use Rattle.tao_base.specs.Limits.{Shape}
 use Rattle.tao_model.specs.Events.{has_fault, arrived, dones, issues, acks}

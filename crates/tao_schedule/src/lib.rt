@@ -14,7 +14,6 @@ pub use schedules::{
     step_goes_on, tests_need_no_op,
 };
 pub use twins::{
-    twin_is_alike, twin_leaves, twin_meets_no_fault, twin_script_is_allowed,
-    twins_look_alike,
+    twin_is_alike, twin_leaves, twin_meets_no_fault, twin_script_is_allowed, twins_look_alike,
 };
 pub use worked::{worked_schedule, worked_steps};
