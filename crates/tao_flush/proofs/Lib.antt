@@ -1,7 +1,8 @@
 pub mod Evicted
 mod GatheredCopies
 mod Loaded
-mod LoopLists
+mod MergeSteps
+mod MergedLists
 pub mod PathNodes
 pub mod PlacedLists
 mod RankedCopies

@@ -10,9 +10,8 @@ use Rattle.tao_base.proofs.TreeLemmas.{one_le_node}
 use Rattle.tao_model.specs.Passes.{spot, put_at}
 use Rattle.tao_model.specs.Greatest.{IsLast}
 use Rattle.tao_model.proofs.FallingPaths.{has}
-use Rattle.tao_flush.specs.Placing.{lists_on, may_place, fits, next_placed, all_placed, PlacesNext}
-use Rattle.std.proofs.Common.{All, fold}
-use Rattle.tao_model.specs.Passes.{put_next}
+use Rattle.tao_flush.specs.Placing.{lists_on, may_place, fits, PlacesNext}
+use Rattle.std.proofs.Common.{All}
 use Rattle.tao_flush.proofs.PathNodes.{node_or_stash, node_rises, on_own_path, on_other_path, deepest_on_path, last_alike}
 
 pub list_at : (l at d : ℕ) (contents : ℕ → List Entry) (e : List Entry) → d ≤ l → get_or (lists_on l at contents) d e ≡ contents (node_at l at d)
@@ -98,19 +97,9 @@ places_none s at leaf old rest e small other is contents lists others =
       ap (λ es. es ++ e ∷ []) others ∙ sym (ap (λ v. put_at contents v e 0) spot_is),
     )
 
--- ---- the pass over the list
+-- ---- before any entry
 
 pub none_placed : (l at : ℕ) (lists : List (List Entry)) → length lists ≡ l + 1 → All (λ list. list ≡ []) lists → lists ≡ lists_on l at (λ w. [])
 none_placed l at lists len empty =
     same_lists lists (lists_on l at (λ w. [])) (len ∙ sym (lists_len l at (λ w. [])))
     (λ k x below. empty k x below ∙ sym (list_at l at k (λ w. []) x (omega arith)))
-
--- one entry more
-pub next_of_all : (s : Shape) (at : ℕ) (leaf : ℕ → ℕ) (es : List Entry) (e : Entry) → next_placed s at leaf (all_placed s at leaf es) e ≡ all_placed s at leaf (es ++ e ∷ [])
-next_of_all s at leaf es e = from (λ w. []) es
-  where
-    from : (contents : ℕ → List Entry) (all : List Entry)
-        → put_next (may_place s.l at leaf) (node_count s.l) s.z (fold (put_next (may_place s.l at leaf) (node_count s.l) s.z) contents all) e
-        ≡ fold (put_next (may_place s.l at leaf) (node_count s.l) s.z) contents (all ++ e ∷ [])
-    from contents [] = refl
-    from contents (f ∷ all) = from (put_next (may_place s.l at leaf) (node_count s.l) s.z contents f) all

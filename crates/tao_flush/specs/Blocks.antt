@@ -20,7 +20,7 @@ pub record AreNodeEntries (s : Shape) (entries : List Entry) : Type 0 where
   pub few : length entries ≤ s.z
   pub each : All (IsEntry s) entries
 
--- room for the copies of all blocks, and for eight at each node of a path
+-- room for all blocks, and for eight more at each node of a path
 abbrev pub HasRoom : Shape → ℕ → Type 0
 HasRoom s room = s.n + (s.l + 1) * 8 ≤ room
 

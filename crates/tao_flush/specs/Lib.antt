@@ -2,6 +2,7 @@ pub mod Blocks
 pub mod Gathering
 pub mod Laws
 pub mod Loads
+pub mod Merging
 pub mod Paths
 pub mod Placing
 pub mod Ranking

@@ -6,9 +6,9 @@ ghost use Rattle.tao_flush.specs.Paths.{Evicts};
 ghost use Rattle.tao_flush.specs.State.{leaf_in};
 
 use crate::gathering::gather_path;
+use crate::merging::make_way;
 use crate::placing::Eviction;
 use crate::positions::Positions;
-use crate::ranking::rank_copies;
 use crate::stash::Stash;
 use tao_base::{Entries, Params};
 
@@ -27,14 +27,13 @@ pub fn flush(p: &Params, leaf: u32, path: &mut [Entries], stash: &mut Stash, pos
 {
     // tells the prover that the parameters are within their limits
     let _within = p.n();
-    let count = gather_path(stash.alloc, &mut stash.entries, path, &mut stash.copies);
-    rank_copies(count, &stash.copies, &mut stash.keys);
+    let count = gather_path(path, &mut stash.copies);
+    make_way(stash.alloc, &mut stash.entries, count);
     let eviction = Eviction {
         alloc: stash.alloc,
         p: *p,
         leaf,
         positions,
     };
-    let keys = &stash.keys[..count];
-    eviction.place_copies(path, count, &mut stash.copies, keys, &mut stash.entries);
+    eviction.place_copies(path, count, &mut stash.copies, &mut stash.entries);
 }

@@ -5,6 +5,7 @@ mod eviction;
 mod gathering;
 mod laws;
 mod loading;
+mod merging;
 mod placing;
 mod positions;
 mod ranking;

@@ -9,7 +9,7 @@ ghost use Rattle.tao_flush.specs.Blocks.{IsStash, AreNodeEntries};
 ghost use Rattle.tao_flush.specs.Loads.{IsLoaded, LoadsNext, bucket_of, has_room};
 
 use crate::positions::Positions;
-use crate::stash::{Stash, most_copies};
+use crate::stash::{Stash, most_places};
 use std::alloc::Global;
 use tao_base::{Block, Bucket, Buckets, Entries, Entry, NoMemory, Params, path_node};
 
@@ -30,7 +30,7 @@ pub fn load(
     ensures shape { IfOk result (λ r. r.1.shape ≡ p.now) }
 {
     let mut nodes = empty_nodes(alloc, p)?;
-    let mut rest = Vec::with_capacity(alloc, most_copies(p))?;
+    let mut rest = Vec::with_capacity(alloc, most_places(p))?;
     place_blocks(alloc, p, positions, blocks, &mut nodes, &mut rest)?;
     let stash = Stash::with_entries(alloc, p, rest)?;
     Ok((Buckets::from_vec(nodes), stash))

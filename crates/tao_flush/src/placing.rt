@@ -1,13 +1,10 @@
 //! One pass in rising id: each block goes to the deepest node of the path that it may lie in and that has room, or stays.
-ghost use Rattle.std.specs.Prelude.{◌≡◌, ◌+◌, ◌^◌, ◌<◌, ◌≤◌, [], ◌∷◌, ◌++◌, length, take, vec_len, vec_capacity, IfSome, All};
+ghost use Rattle.std.specs.Prelude.{◌≡◌, ◌+◌, ◌^◌, ◌<◌, ◌≤◌, [], length, take, drop, IfSome};
 ghost use Rattle.std.specs.List.{slice_index_or};
 ghost use Rattle.tao_model.specs.Greatest.{IsLast};
-ghost use Rattle.tao_flush.specs.Placing.{fits, IsEviction, PlacesAll, PlacesOne, AreShared};
-ghost use Rattle.tao_flush.specs.Ranking.{chosen, IsRanked};
+ghost use Rattle.tao_flush.specs.Placing.{fits, IsEviction, PlacesOne, AreShared};
 
-use crate::gathering::take;
 use crate::positions::Positions;
-use crate::ranking::{id_of_key, place_of_key};
 use std::alloc::Global;
 use tao_base::{Entries, Entry, Params};
 
@@ -21,55 +18,34 @@ pub(crate) struct Eviction<'a> {
 }
 
 impl Eviction<'_> {
-    /// Puts the first copy of each block into the empty nodes of the path, in the order of the keys, which are those of the first copies,
-    /// as many as `count`. What finds no room goes to the list of the rest.
-    pub(crate) fn place_copies(
+    /// Puts an entry where it is to go: into a node, or at a place of the list of the rest. Answers the place for the next one.
+    pub(crate) fn place_entry(
         &self,
         path: &mut [Entries],
-        count: usize,
-        copies: &mut [Entry],
-        keys: &[u64],
-        rest: &mut Vec<Entry>,
-    )
-        requires eviction { IsEviction self.now }
-        requires count { count ≤ length copies.old }
-        requires ids { All (λ entry. entry.id < self.now.p.n) (take count copies.old) }
-        requires path { length path.old ≡ self.now.p.l + 1 }
-        requires emptied { All (λ list. list ≡ []) path.old }
-        requires ranked { IsRanked copies.old count keys.now }
-        requires none { rest.old.items ≡ [] }
-        requires room { length keys.now ≤ vec_capacity rest.old }
-        ensures placed { PlacesAll self.now (chosen copies.old 0 keys.now) path.new rest.new.items }
-        ensures capacity { vec_capacity rest.old ≤ vec_capacity rest.new }
-    {
-        // tells the prover that the number of blocks fits 32 bits
-        let _count = self.p.n();
-        let mut low = 0;
-        for i in 0..keys.len() {
-            let id = id_of_key(keys[i]);
-            let copy = take(self.alloc, &mut copies[place_of_key(keys[i])]);
-            // later copies of a block are dropped
-            if low <= id {
-                low = id + 1;
-                self.place_entry(path, rest, copy);
-            }
-        }
-    }
-
-    // Puts an entry where it is to go: into a node, or behind the rest.
-    fn place_entry(&self, path: &mut [Entries], rest: &mut Vec<Entry>, entry: Entry)
+        rest: &mut [Entry],
+        kept: usize,
+        entry: Entry,
+    ) -> usize
         requires eviction { IsEviction self.now }
         requires block { entry.id < self.now.p.n }
         requires path { length path.old ≡ self.now.p.l + 1 }
-        requires room { vec_len rest.old < vec_capacity rest.old }
-        ensures placed { PlacesOne self.now path.old rest.old.items entry path.new rest.new.items }
-        ensures most { vec_len rest.new ≤ vec_len rest.old + 1 }
-        ensures capacity { vec_capacity rest.old ≤ vec_capacity rest.new }
+        requires room { kept < length rest.old }
+        ensures placed { PlacesOne self.now path.old (take kept rest.old) entry path.new (take result rest.new) }
+        ensures more { kept ≤ result }
+        ensures most { result ≤ kept + 1 }
+        ensures behind { drop (kept + 1) rest.new ≡ drop (kept + 1) rest.old }
+        ensures len { length rest.new ≡ length rest.old }
     {
         let own = self.positions.leaf(entry.id);
         match deepest_with_room(&self.p, self.leaf, own, path) {
-            Some(depth) => path[depth as usize].push_reserved(entry),
-            None => rest.push_reserved(entry),
+            Some(depth) => {
+                path[depth as usize].push_reserved(entry);
+                kept
+            }
+            None => {
+                rest[kept] = entry;
+                kept + 1
+            }
         }
     }
 }
