@@ -33,14 +33,6 @@ pub(crate) fn bucket(node: u8, last: u8) -> [u8; LEN] {
     bytes
 }
 
-// The path of these two buckets.
-pub(crate) fn joined(root: [u8; LEN], leaf: [u8; LEN]) -> [u8; 2 * LEN] {
-    let mut path = [0; 2 * LEN];
-    path[..LEN].copy_from_slice(&root);
-    path[LEN..].copy_from_slice(&leaf);
-    path
-}
-
 // The node in a bucket's header.
 fn node_in(rt: &impl Abort, bucket: &[u8; LEN]) -> u32
     ensures value { result ≡ header_node bucket.now }
@@ -92,11 +84,7 @@ pub(crate) fn order_of_two(
 }
 
 // What is answered to a fetch of this leaf over this link.
-pub(crate) fn fetch<L: Link, R: Wait>(
-    rt: &R,
-    link: &mut L,
-    leaf: u32,
-) -> Result<[u8; 2 * LEN], Failed>
+fn fetch<L: Link, R: Wait>(rt: &R, link: &mut L, leaf: u32) -> Result<[u8; 2 * LEN], Failed>
     requires link { L.reach link.old ≡ reach_of (shape 1 1 4 1 1 One) }
     requires leaf { leaf < 2 }
     ensures { L.reach link.new ≡ L.reach link.old }
@@ -106,11 +94,43 @@ pub(crate) fn fetch<L: Link, R: Wait>(
     Ok(path)
 }
 
-// A store over this link.
-pub(crate) fn store<L: Link, R: Wait>(rt: &R, link: &mut L, order: &Order) -> Result<(), Failed>
+// A fetch of this leaf is answered by this path.
+pub(crate) fn check_path<L: Link, R: Abort + Wait>(
+    rt: &R,
+    link: &mut L,
+    leaf: u32,
+    path: [u8; 2 * LEN],
+)
+    requires link { L.reach link.old ≡ reach_of (shape 1 1 4 1 1 One) }
+    requires leaf { leaf < 2 }
+    ensures { L.reach link.new ≡ L.reach link.old }
+{
+    match fetch(rt, link, leaf) {
+        Ok(answer) => assert!(rt; answer == path),
+        Err(_) => assert!(rt; false),
+    }
+}
+
+// A fetch fails.
+pub(crate) fn check_no_path<L: Link, R: Abort + Wait>(rt: &R, link: &mut L)
+    requires { L.reach link.old ≡ reach_of (shape 1 1 4 1 1 One) }
+    ensures { L.reach link.new ≡ L.reach link.old }
+{
+    let failed = fetch(rt, link, 1).is_err();
+    assert!(rt; failed);
+}
+
+// A store over this link is acknowledged, or isn't.
+pub(crate) fn check_store<L: Link, R: Abort + Wait>(
+    rt: &R,
+    link: &mut L,
+    order: &Order,
+    right: bool,
+)
     requires link { L.reach link.old ≡ reach_of (shape 1 1 4 1 1 One) }
     requires order { IsSendable (reach_of (shape 1 1 4 1 1 One)) order.now }
     ensures { L.reach link.new ≡ L.reach link.old }
 {
-    link.store(rt, order)
+    let stored = link.store(rt, order).is_ok();
+    assert!(rt; stored == right);
 }

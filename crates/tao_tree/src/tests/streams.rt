@@ -5,7 +5,7 @@ ghost use Rattle.tao_base.specs.Limits.{shape};
 ghost use Rattle.tao_base.specs.declared.parameters.Form.TheVariants.{One};
 ghost use Rattle.tao_tree.specs.Nodes.{reach_of};
 
-use super::{LEN, bucket, fetch, order_of, small, store};
+use super::{LEN, bucket, check_no_path, check_path, check_store, fetch, order_of, small};
 use crate::StreamLink;
 use std::alloc::Global;
 use std::process::Abort;
@@ -129,9 +129,9 @@ fn store_thrice<R: Abort + Wait>(rt: &R, alloc: Global, bytes: Image) -> Result<
     let mut sink = ByteSink::new(alloc, Numbers::new(alloc));
     sink.reserve(74)?;
     let mut link = StreamLink::new(alloc, &small()?, source, sink)?;
-    assert!(rt; store(rt, &mut link, &order).is_ok());
-    assert!(rt; store(rt, &mut link, &order).is_err());
-    assert!(rt; store(rt, &mut link, &order).is_err());
+    check_store(rt, &mut link, &order, true);
+    check_store(rt, &mut link, &order, false);
+    check_store(rt, &mut link, &order, false);
     let (_, sink) = link.into_parts();
     Ok(sink)
 }
@@ -145,8 +145,8 @@ fn halves_that_fail(rt: HostRuntime) -> Result<(), Fail> {
     let mut sink = ByteSink::new(alloc, Numbers::new(alloc));
     sink.reserve(20)?;
     let mut link = StreamLink::new(alloc, &small()?, source, sink)?;
-    assert!(rt; !is_answered(&rt, &mut link));
-    assert!(rt; !is_answered(&rt, &mut link));
+    check_no_path(&rt, &mut link);
+    check_no_path(&rt, &mut link);
     let (_, sink) = link.into_parts();
     assert_eq!(rt; sink.bytes().len(), 20);
     Ok(())
@@ -198,6 +198,6 @@ fn byte_by_byte(rt: HostRuntime) -> Result<(), Fail> {
     let mut inner = ByteSink::new(alloc, Numbers::new(alloc));
     inner.reserve(17)?;
     let mut link = StreamLink::new(alloc, &small()?, source, SlowSink { inner })?;
-    assert!(rt; is_answered(&rt, &mut link));
+    check_path(&rt, &mut link, 1, [7; 2 * LEN]);
     Ok(())
 }

@@ -5,38 +5,40 @@ use crate::Tree;
 use std::process::Abort;
 use std::test::Fail;
 
-fn apply(rt: &impl Abort, tree: &mut Tree, version: u32, node: u32, bytes: &[u8]) -> bool {
+// A bucket of these bytes is kept at the node, or isn't.
+fn check_apply(rt: &impl Abort, tree: &mut Tree, version: u32, node: u32, byte: u8, kept: bool) {
     let p = *tree.params();
-    assert!(rt; 1 <= node && node <= p.nodes() && bytes.len() == p.bucket_len() as usize);
-    tree.apply(version, node, bytes)
+    let bytes = [byte; LEN];
+    assert!(rt; 1 <= node && node <= p.nodes() && LEN == p.bucket_len() as usize);
+    assert!(rt; tree.apply(version, node, &bytes) == kept);
 }
 
-pub(crate) fn version_at(rt: &impl Abort, tree: &Tree, node: u32) -> Option<u32> {
-    assert!(rt; 1 <= node && node <= tree.params().nodes());
-    tree.version_at(node)
-}
-
-fn read(rt: &impl Abort, tree: &Tree, node: u32) -> [u8; LEN] {
+// The node has this version, and all its bytes are this one.
+fn check_node(rt: &impl Abort, tree: &Tree, node: u32, version: Option<u32>, byte: u8) {
     let p = tree.params();
-    let mut out = [9; LEN];
-    assert!(rt; 1 <= node && node <= p.nodes() && p.bucket_len() as usize == LEN);
-    tree.read(node, &mut out);
-    out
+    let mut bytes = [9; LEN];
+    assert!(rt; 1 <= node && node <= p.nodes() && LEN == p.bucket_len() as usize);
+    tree.read(node, &mut bytes);
+    assert!(rt; bytes == [byte; LEN]);
+    assert!(rt; tree.version_at(node) == version);
+}
+
+pub(crate) fn check_version(rt: &impl Abort, tree: &Tree, node: u32, version: u32) {
+    assert!(rt; 1 <= node && node <= tree.params().nodes());
+    assert!(rt; tree.version_at(node) == Some(version));
 }
 
 #[test]
 fn newest_version_stays(rt: HostRuntime) -> Result<(), Fail> {
     let mut tree = Tree::new(rt.alloc(), &small()?)?;
-    assert!(rt; apply(&rt, &mut tree, 2, 1, &[1; LEN]));
-    assert!(rt; !apply(&rt, &mut tree, 1, 1, &[2; LEN]));
-    assert!(rt; !apply(&rt, &mut tree, 2, 1, &[3; LEN]));
-    assert_eq!(rt; read(&rt, &tree, 1), [1; LEN]);
-    assert_eq!(rt; read(&rt, &tree, 3), [0; LEN]);
-    assert_eq!(rt; version_at(&rt, &tree, 1), Some(2));
-    assert_eq!(rt; version_at(&rt, &tree, 2), None);
-    assert!(rt; apply(&rt, &mut tree, 3, 1, &[3; LEN]));
-    assert!(rt; apply(&rt, &mut tree, 0, 3, &[4; LEN]));
-    assert_eq!(rt; read(&rt, &tree, 1), [3; LEN]);
-    assert_eq!(rt; read(&rt, &tree, 3), [4; LEN]);
+    check_apply(&rt, &mut tree, 2, 1, 1, true);
+    check_apply(&rt, &mut tree, 1, 1, 2, false);
+    check_apply(&rt, &mut tree, 2, 1, 3, false);
+    check_node(&rt, &tree, 1, Some(2), 1);
+    check_node(&rt, &tree, 3, None, 0);
+    check_apply(&rt, &mut tree, 3, 1, 3, true);
+    check_apply(&rt, &mut tree, 0, 3, 4, true);
+    check_node(&rt, &tree, 1, Some(3), 3);
+    check_node(&rt, &tree, 3, Some(0), 4);
     Ok(())
 }
