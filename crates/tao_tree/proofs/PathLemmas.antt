@@ -1,15 +1,13 @@
 -- A path that is read bucket after bucket, and the nodes of an empty tree.
 use Rattle.std.proofs.Common.{◌≡◌, ℕ, zero, suc, ◌+◌, ◌-◌, ◌*◌, ◌<◌, ◌≤◌, List, [], ◌∷◌, ◌++◌, length, map, take, replicate, slice_index_or, Option, None, refl, sym, ap, ap₂, ◌∙◌, arith, append-nil, add-one}
 use Rattle.std.specs.List.{flat_map, range_with_len}
-use Rattle.std.proofs.lemmas.List.{replicate-append-replicate}
-use Rattle.std.proofs.lemmas.List.FromFn.{map-range_with_len_more, length-map-range_with_len}
+use Rattle.std.proofs.lemmas.List.FromFn.{map-range_with_len_more}
 use Rattle.std.proofs.lemmas.Grind.{flat_map-append}
 use Rattle.std.proofs.lemmas.Slice.{take-put_mid}
 use Rattle.std.proofs.Math.Nat.{suc-mul}
 use borrow.Rule.Slice.PartMut.{put_mid}
-use Rattle.tao_base.specs.Limits.{Shape, bucket_len}
-use Rattle.tao_base.specs.Tree.{node_at, node_count, path}
-use Rattle.tao_tree.specs.Nodes.{TreeState, Held, bytes_at, bytes_of, empty_tree}
+use Rattle.tao_base.specs.Tree.{node_at}
+use Rattle.tao_tree.specs.Nodes.{TreeState, Held, bytes_at}
 use Rattle.tao_tree.proofs.Places.{place_within}
 
 -- one more bucket of the path

@@ -1,5 +1,4 @@
 use Rattle.std.proofs.Common.{refl, arith}
-use Rattle.tao_base.specs.Links.{order_limit}
 use Rattle.tao_tree.proofs.laws.stream_fits.Goals as goal
 
 pub returns : goal.returns
