@@ -28,9 +28,8 @@ under number table = map (λ e. e.1) (filter (λ e. nat_eq e.0 number) table)
 abbrev pub first_under : {X : Type 0} → ℕ → List (ℕ × X) → Option X
 first_under number table = option_map (λ e. e.1) (find (λ e. nat_eq e.0 number) table)
 
--- The tree's parameters; the links that are out, and those given back with their numbers; the streams as on a rack; which calls fail, the
--- forgeries, and the capacity of a link's log in calls and in buckets of stores; how many calls of `listen` and `accept` there were, and
--- how many calls failed.
+-- The tree's parameters, the links and streams handed out and given back, the calls to fail and the answers to forge, a log's capacity in
+-- calls and in buckets of stores, and how many calls of `listen` and `accept` there were and how many calls failed.
 pub record DoorsState : Type 0 where
   pub shape : Shape
   pub links_out : ℕ

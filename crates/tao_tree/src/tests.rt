@@ -5,6 +5,7 @@ ghost use Rattle.tao_base.specs.Links.{IsSendable, header_node};
 ghost use Rattle.tao_base.specs.declared.parameters.Form.TheVariants.{One};
 ghost use Rattle.tao_tree.specs.Nodes.{reach_of};
 
+mod doors;
 mod memory;
 mod streams;
 mod trees;
