@@ -1,5 +1,5 @@
 -- The pass in rising id, as the lists of a path's nodes see it.
-use Rattle.std.specs.Prelude.{◌≡◌, ℕ, ◌+◌, ◌^◌, ◌<◌, ◌≤◌, ◌==◌, nat_lt, Bool, ◌&&◌, List, [], map, length}
+use Rattle.std.specs.Prelude.{◌≡◌, ℕ, ◌+◌, ◌^◌, ◌<◌, ◌≤◌, ◌==◌, nat_lt, Bool, ◌&&◌, List, [], map, length, drop, All}
 use Rattle.std.specs.List.{list_any, range_with_len, slice_index_or}
 use Rattle.tao_base.specs.declared.storage.Entry.{Entry}
 use Rattle.tao_base.specs.Limits.{Shape}
@@ -42,6 +42,14 @@ PlacesNext s at leaf old rest entry new rest' = (contents : ℕ → List Entry) 
 -- the leaf is one of the tree, and the positions are those of its blocks
 abbrev pub IsEviction : Eviction → Type 0
 IsEviction e = (e.leaf < 2 ^ e.p.l) × (e.positions.now.shape ≡ e.p)
+
+-- the lists of the path's nodes, with no entry in any
+abbrev pub AreEmptied : Eviction → List (List Entry) → Type 0
+AreEmptied e lists = (length lists ≡ e.p.l + 1) × All (λ list. list ≡ []) lists
+
+-- a list is as it was from a place on
+abbrev pub KeepsFrom : ℕ → List Entry → List Entry → Type 0
+KeepsFrom place old new = (drop place new ≡ drop place old) × (length new ≡ length old)
 
 -- one entry goes where it is to go, as above
 abbrev pub PlacesOne : Eviction → List (List Entry) → List Entry → Entry → List (List Entry) → List Entry → Type 0

@@ -2,7 +2,7 @@
 ghost use Rattle.std.specs.Prelude.{◌≡◌, ◌+◌, ◌^◌, ◌<◌, ◌≤◌, [], length, take, drop, IfSome};
 ghost use Rattle.std.specs.List.{slice_index_or};
 ghost use Rattle.tao_model.specs.Greatest.{IsLast};
-ghost use Rattle.tao_flush.specs.Placing.{fits, IsEviction, PlacesOne, AreShared};
+ghost use Rattle.tao_flush.specs.Placing.{fits, IsEviction, KeepsFrom, PlacesOne, AreShared};
 
 use crate::positions::Positions;
 use std::alloc::Global;
@@ -31,10 +31,8 @@ impl Eviction<'_> {
         requires path { length path.old ≡ self.now.p.l + 1 }
         requires room { kept < length rest.old }
         ensures placed { PlacesOne self.now path.old (take kept rest.old) entry path.new (take result rest.new) }
-        ensures more { kept ≤ result }
         ensures most { result ≤ kept + 1 }
-        ensures behind { drop (kept + 1) rest.new ≡ drop (kept + 1) rest.old }
-        ensures len { length rest.new ≡ length rest.old }
+        ensures behind { KeepsFrom (kept + 1) rest.old rest.new }
     {
         let own = self.positions.leaf(entry.id);
         match deepest_with_room(&self.p, self.leaf, own, path) {
