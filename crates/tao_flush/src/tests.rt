@@ -123,7 +123,7 @@ fn evicted(
     let mut path = path_of(alloc, p, nodes)?;
     flush_times(p, 0, &mut path, &mut stash, &positions, times);
     let mut rows = Vec::new(alloc);
-    show(&mut rows, 0, &stash.entries)?;
+    show(&mut rows, 0, stash.entries())?;
     show_path(&mut rows, &path)?;
     Ok(rows)
 }
@@ -169,7 +169,7 @@ fn loaded(alloc: Global, p: &Params, words: &[u32]) -> Result<Vec<Row>, NoMemory
     let positions = Positions::new(alloc, p, words)?;
     let (nodes, stash) = load(alloc, p, &positions, &blocks)?;
     let mut rows = Vec::new(alloc);
-    show(&mut rows, 0, &stash.entries)?;
+    show(&mut rows, 0, stash.entries())?;
     show_nodes(&mut rows, nodes.as_slice())?;
     Ok(rows)
 }
@@ -210,7 +210,7 @@ fn the_stash_is_a_map(rt: HostRuntime) -> Result<(), Fail> {
     let three = stash.get(3).ok_or("there is none")?;
     assert_eq!(rt; three.as_slice(), [9; 4].as_slice());
     let mut rows = Vec::new(rt.alloc());
-    show(&mut rows, 0, &stash.entries)?;
+    show(&mut rows, 0, stash.entries())?;
     assert_eq!(rt;
         rows.as_slice(),
         [(0, 0, 9), (0, 1, 9), (0, 3, 9)].as_slice()
