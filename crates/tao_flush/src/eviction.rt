@@ -1,5 +1,5 @@
-//! The eviction of Path ORAM. It is fast since a block moves by its handle alone, with no copy of its bytes, and what is sorted are keys of
-//! 64 bits.
+//! The eviction of Path ORAM. It is fast since a block moves by its handle alone, with no copy of its bytes, and what is sorted are 64-bit
+//! keys of the path's entries alone.
 ghost use Rattle.std.specs.Prelude.{◌≡◌, ◌+◌, ◌^◌, ◌<◌, length, All};
 ghost use Rattle.tao_flush.specs.Blocks.{IsStash, AreNodeEntries};
 ghost use Rattle.tao_flush.specs.Paths.{Evicts};
