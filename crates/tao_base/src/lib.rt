@@ -29,4 +29,4 @@ pub use session::{Cause, Event};
 pub use sinks::{ByteSink, Sink};
 pub use sources::{ByteSource, Source};
 pub use storage::{Bucket, BucketFault, Entries, Entry, Order};
-pub use transfers::{append_within, are_same, fill, is_listed, write_all};
+pub use transfers::{append_within, are_same, fill, insert_within, is_listed, write_all};

@@ -1,5 +1,5 @@
-//! Bytes that are written and read whole, however they are chunked, and appended within capacity.
-ghost use Rattle.std.specs.Prelude.{◌≡◌, ◌↔◌, ◌+◌, ◌<◌, ◌≤◌, ◌++◌, length, take, vec_len, vec_capacity, IfOk, OnOk, OnErr, IsTrue, Contains};
+//! Bytes that are written and read whole, however they are chunked; items appended and inserted within capacity.
+ghost use Rattle.std.specs.Prelude.{◌≡◌, ◌↔◌, ◌+◌, ◌<◌, ◌≤◌, ◌++◌, length, take, insert, vec_len, vec_capacity, IfOk, OnOk, OnErr, IsTrue, Contains};
 ghost use Rattle.std.specs.Io.KnownBytes.{Consumes, IsAtEnd};
 ghost use Rattle.tao_base.specs.Causes.{HasCause};
 ghost use Rattle.tao_base.specs.Transfers.{PutsAll, PutsPart, ConsumesFewer, same};
@@ -50,6 +50,20 @@ pub fn append_within<T: Copy>(list: &mut Vec<T>, more: &[T])
     ensures capacity { vec_capacity list.old ≤ vec_capacity list.new }
 {
     match list.extend_from_slice(more) {
+        Ok(()) => {}
+        Err(_) => unreachable!(),
+    }
+}
+
+/// Inserts an item at a place of a list that has capacity for it.
+pub fn insert_within<T: Drop>(list: &mut Vec<T>, place: usize, item: T)
+    requires place { place ≤ vec_len list.old }
+    requires room { vec_len list.old < vec_capacity list.old }
+    ensures items { list.new.items ≡ insert list.old.items place item }
+    ensures len { vec_len list.new ≡ vec_len list.old + 1 }
+    ensures capacity { vec_capacity list.old ≤ vec_capacity list.new }
+{
+    match list.insert(place, item) {
         Ok(()) => {}
         Err(_) => unreachable!(),
     }

@@ -61,6 +61,7 @@ pub record Handed : Type 0 where
   pub taken : List Entry
   pub rest : List Entry
 
+-- entries that a node has, and those that it leaves
 abbrev pub handed : List Entry → List Entry → Handed
 handed taken rest = record { taken = taken; rest = rest }
 

@@ -12,6 +12,7 @@ use Rattle.tao_orders.specs.declared.work.Work.{Work}
 abbrev pub QueueId : Type 0
 QueueId = TableId
 
+-- the queue's id
 abbrev pub line_of : Orders → QueueId
 line_of orders = orders.line.table.shared.table_id
 

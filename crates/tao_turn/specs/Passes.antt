@@ -12,6 +12,7 @@ use Rattle.tao_turn.specs.declared.pass.Held.{Held}
 abbrev pub LockId : Type 0
 LockId = TableId
 
+-- a lock's id can stand in a value
 abbrev pub lock_id_coded : Coded LockId
 lock_id_coded = table_id_coded
 
