@@ -6,4 +6,5 @@ pub mod ServerVersions
 pub mod ToldAgain
 pub mod ToldEvents
 pub mod WorkedMoves
+pub mod WorkedOverlaps
 pub mod TwinScripts

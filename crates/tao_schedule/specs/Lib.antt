@@ -6,3 +6,4 @@ pub mod Laws
 pub mod Drains
 pub mod Twins
 pub mod Worked
+pub mod WorkedOverlaps

@@ -16,4 +16,4 @@ pub use schedules::{
 pub use twins::{
     twin_is_alike, twin_leaves, twin_meets_no_fault, twin_script_is_allowed, twins_look_alike,
 };
-pub use worked::{worked_schedule, worked_steps};
+pub use worked::{worked_overlaps, worked_overlaps_are_allowed, worked_schedule, worked_steps};
