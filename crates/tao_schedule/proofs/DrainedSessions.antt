@@ -2,6 +2,7 @@
 use Rattle.std.proofs.Common.{◌≡◌, ℕ, ◌+◌, ◌<◌, ◌≤◌, Bool, true, false, not, ◌&&◌, List, [], ◌∷◌, ◌++◌, map, filter, length, None, refl, sym, ap, ◌∙◌, subst, arith, inl, inr, ◌⊎◌, nat_eq, nat_lt, nat_le}
 use Rattle.std.specs.List.{flat_map, range_with_len}
 use Rattle.std.proofs.lemmas.Bool.{eq-eqb, eqb-true, true≢false, and_from, or_cases, or_left, or_right, false_from_ne_true, lt-ltb, le-leb, not_from_false}
+use Rattle.std.proofs.lemmas.List.{append-nil}
 use Rattle.std.proofs.lemmas.List.Elements.{filter_agree}
 use Rattle.tao_base.specs.declared.session.Event.{Event}
 use Rattle.tao_base.specs.declared.session.Event.TheVariants.{Done, Issue, Acked}
@@ -22,7 +23,7 @@ use Rattle.tao_schedule.specs.Moves.{Move, Applies, Acknowledges, nodes_issued, 
 use Rattle.tao_schedule.specs.Schedules.{Goes, IsSchedule, GoOn}
 use Rattle.tao_schedule.specs.Steps.{moves_of, IsPart, AreParts}
 use Rattle.tao_schedule.specs.Alike.{AreAlike}
-use Rattle.tao_schedule.specs.Drains.{drain_parts, outstanding, again_moves, AreSentAgain, AreDrained, DrainGoesOn, DrainsAlike, DrainEnds}
+use Rattle.tao_schedule.specs.Drains.{drain_parts, outstanding, again_moves, AreSentAgain, AreDrained, DrainGoesOn, PartDrainGoesOn, DrainIsPlayed, DrainsAlike, DrainEnds}
 use Rattle.tao_schedule.proofs.ServerVersions.{under_parts, under_from}
 use Rattle.tao_schedule.proofs.ToldEvents.{SeenSame}
 use Rattle.tao_schedule.proofs.AlikeSessions.{IsQuiet, AskNone, as_many_arrived, quiet_both, no_more, parts_schedule, parts_alike, parts_are_quiet, parts_lawful, leaves_behind, seen_facts, nodes_same, under_same, outstanding_same, go_moves, go_serves, go_schedule, go_lawful, onto, seen_onto, map_seen}
@@ -68,9 +69,25 @@ drain_is_quiet o ms es again later now d =
     quiet_both es d.between now (parts_are_quiet o (λ i. 0) ms es (drain_parts es) d.middle d.between (parts_none es) d.fetched)
     (sent_quiet o d.middle d.between again later now d.sent)
 
+pub part_drain_goes_on : PartDrainGoesOn
+part_drain_goes_on o ms es again later now s d =
+    sent_schedule o d.middle d.between again later now (parts_schedule o (λ i. 0) ms es d.played d.middle d.between s d.fetched) d.sent
+
+pub drain_is_played : DrainIsPlayed
+drain_is_played o ms es again later now d = record {
+  played = drain_parts es;
+  unplayed = [];
+  parts = append-nil (drain_parts es);
+  middle = d.middle;
+  between = d.between;
+  fetched = d.fetched;
+  unsent = [];
+  versions = inr (refl, append-nil again ∙ d.versions);
+  sent = d.sent;
+}
+
 pub drain_goes_on : DrainGoesOn
-drain_goes_on o ms es again later now s d =
-    sent_schedule o d.middle d.between again later now (parts_schedule o (λ i. 0) ms es (drain_parts es) d.middle d.between s d.fetched) d.sent
+drain_goes_on o ms es again later now s d = part_drain_goes_on o ms es again later now s (drain_is_played o ms es again later now d)
 
 -- ---- two sessions drain
 

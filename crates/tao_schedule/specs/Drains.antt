@@ -1,6 +1,6 @@
 -- The drain of a session: fetches under way are finished, then outstanding stores are sent again and acknowledged.
 -- Moves and events are newest first; parts and versions are in their order.
-use Rattle.std.specs.Prelude.{◌≡◌, ℕ, ◌+◌, List, [], ◌∷◌, ◌++◌, map, filter, length, false, None}
+use Rattle.std.specs.Prelude.{◌≡◌, ◌⊎◌, ℕ, ◌+◌, List, [], ◌∷◌, ◌++◌, map, filter, length, false, None}
 use Rattle.std.specs.List.{flat_map, range_with_len}
 use Rattle.tao_base.specs.declared.session.Event.{Event}
 use Rattle.tao_base.specs.Session.{Opening}
@@ -37,6 +37,28 @@ pub record AreDrained (o : Opening) (ms : List Move) (es : List Event) (again : 
   pub fetched : AreParts o (λ i. 0) ms es (drain_parts es) middle between
   pub versions : again ≡ outstanding between
   pub sent : AreSentAgain o middle between again later now
+
+-- A drain was broken off: some of its parts were played and, once all were, some of its stores were sent again.
+pub record IsPartlyDrained (o : Opening) (ms : List Move) (es : List Event) (again : List ℕ) (later : List Move) (now : List Event) : Type 0 where
+  pub played : List What
+  pub unplayed : List What
+  pub parts : played ++ unplayed ≡ drain_parts es
+  pub middle : List Move
+  pub between : List Event
+  pub fetched : AreParts o (λ i. 0) ms es played middle between
+  pub unsent : List ℕ
+  pub versions : (again ≡ []) ⊎ ((unplayed ≡ []) × (again ++ unsent ≡ outstanding between))
+  pub sent : AreSentAgain o middle between again later now
+
+-- A drain that was broken off is part of a schedule, too.
+abbrev pub PartDrainGoesOn : Type 0
+PartDrainGoesOn = (o : Opening) (ms : List Move) (es : List Event) (again : List ℕ) (later : List Move) (now : List Event)
+    → IsSchedule o ms es → IsPartlyDrained o ms es again later now → IsSchedule o later now
+
+-- A whole drain is one of which nothing is left.
+abbrev pub DrainIsPlayed : Type 0
+DrainIsPlayed = (o : Opening) (ms : List Move) (es : List Event) (again : List ℕ) (later : List Move) (now : List Event)
+    → AreDrained o ms es again later now → IsPartlyDrained o ms es again later now
 
 -- A drain is part of a schedule.
 abbrev pub DrainGoesOn : Type 0

@@ -7,7 +7,7 @@ mod schedules;
 mod twins;
 mod worked;
 
-pub use drains::{drain_ends, drain_goes_on, drains_alike};
+pub use drains::{drain_ends, drain_goes_on, drain_is_played, drains_alike, part_drain_goes_on};
 pub use schedules::{
     alike_go_on, alike_steps, alike_tests, misplaced_stays, one_schedule, placed_may_go,
     played_front, played_is_allowed, served_is_newest, server_is_newest, stays_in_step,
