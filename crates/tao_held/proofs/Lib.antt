@@ -2,4 +2,5 @@ pub mod AlikeContents
 pub mod Blocks
 pub mod HeldAnswers
 pub mod HeldSteps
+pub mod WholeBlocks
 pub mod WorkedHolds

@@ -9,7 +9,7 @@ use Rattle.tao_base.specs.declared.storage.Entry.{Entry}
 use Rattle.tao_base.specs.Limits.{Shape}
 use Rattle.tao_base.specs.Session.{Opening}
 use Rattle.tao_base.specs.Array.{array_after, block_at}
-use Rattle.tao_model.specs.Events.{arrived, is_done}
+use Rattle.tao_model.specs.Events.{arrived, is_done, is_pad}
 use Rattle.tao_model.specs.Requests.{is_settled}
 use Rattle.tao_model.specs.Residence.{is_resident}
 use Rattle.tao_model.specs.Replies.{ops}
@@ -48,6 +48,24 @@ AnswersStay = (o : Opening) (events later : List Event) (j : ℕ) → FollowsLaw
 abbrev pub FoundStays : Type 0
 FoundStays = (o : Opening) (events later : List Event) (i : ℕ) → FollowsLawfully o (reverse (events ++ later)) → is_done (reverse events) i ≡ true
     → found_value o (reverse (events ++ later)) i ≡ found_value o (reverse events) i
+
+-- the values of all entries have so many bytes
+abbrev pub HaveLength : ℕ → (ℕ → List Entry) → Type 0
+HaveLength bytes contents = (w : ℕ) → All (λ entry. length entry.value ≡ bytes) (contents w)
+
+-- All values that the proxy holds have the length of a block, whether fetched buckets were altered or not.
+abbrev pub HeldHaveLength : Type 0
+HeldHaveLength = (o : Opening) (events : List Event) → FollowsLawfully o (reverse events) → HaveLength o.shape.b (λ w. held o (reverse events) w)
+
+-- So has what the look-up of a done arrival found.
+abbrev pub FoundHaveLength : Type 0
+FoundHaveLength = (o : Opening) (events : List Event) (i : ℕ) → FollowsLawfully o (reverse events) → is_done (reverse events) i ≡ true
+    → length (found_value o (reverse events) i) ≡ o.shape.b
+
+-- The answer of a settled arrival has it too, and a pad's has no bytes.
+abbrev pub AnswersHaveLength : Type 0
+AnswersHaveLength = (o : Opening) (events : List Event) (j : ℕ) → FollowsLawfully o (reverse events) → is_settled (reverse events) j ≡ true
+    → length (served_answer o (reverse events) j) ≡ (if is_pad (reverse events) j then 0 else o.shape.b)
 
 -- The arrivals from number i on change a value as the plain array does by their operations.
 abbrev pub SinceIsFold : Type 0

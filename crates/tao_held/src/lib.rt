@@ -8,7 +8,10 @@ mod holding;
 mod worked;
 
 pub use alike::{evicted_alike, fetched_alike, put_is, put_is_gathered};
-pub use answering::{answers_stay, between_is_fold, found_stays, since_is_fold};
+pub use answering::{
+    answers_have_length, answers_stay, between_is_fold, found_have_length, found_stays,
+    held_have_length, since_is_fold,
+};
 pub use holding::{away_is_empty, held_stays};
 pub use worked::{
     copies_that_count, one_read_holds, two_fetches_hold, worked_are_of_proxy, writes_are_answered,
