@@ -2,5 +2,6 @@ pub mod AlikeContents
 pub mod Blocks
 pub mod HeldAnswers
 pub mod HeldSteps
+pub mod TrueWrites
 pub mod WholeBlocks
 pub mod WorkedHolds

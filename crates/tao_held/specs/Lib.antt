@@ -2,3 +2,4 @@ pub mod Held
 pub mod HeldLaws
 pub mod Steps
 pub mod WorkedHeld
+pub mod WorkedProxies

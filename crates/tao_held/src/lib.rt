@@ -6,6 +6,7 @@ mod alike;
 mod answering;
 mod holding;
 mod worked;
+mod worked_proxies;
 
 pub use alike::{evicted_alike, fetched_alike, put_is, put_is_gathered};
 pub use answering::{
@@ -15,4 +16,7 @@ pub use answering::{
 pub use holding::{away_is_empty, held_stays};
 pub use worked::{
     copies_that_count, one_read_holds, two_fetches_hold, worked_are_of_proxy, writes_are_answered,
+};
+pub use worked_proxies::{
+    altered_is_answered, only_true_writes, overlapping_write_holds, versions_are_told,
 };
