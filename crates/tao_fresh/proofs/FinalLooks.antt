@@ -37,7 +37,7 @@ none_of : {X : Type 0} (x : Option X) → is_some x ≡ false → x ≡ None
 none_of None off = refl
 none_of (Some y) off = absurd (true≢false off)
 
-written_past : (o : Opening) (es : List Event) (w : ℕ) → OpensWithLoad o → FollowsLawfully o es → node_count o.shape.l < w → newest_write o es w ≡ None
+pub written_past : (o : Opening) (es : List Event) (w : ℕ) → OpensWithLoad o → FollowsLawfully o es → node_count o.shape.l < w → newest_write o es w ≡ None
 written_past o [] w opens f past = none_of (bucket_of w o.loaded) (bucket_in w o.loaded ∙ ap (has w) opens.numbered.nodes ∙ past_range 1 (node_count o.shape.l) w (omega arith))
 written_past o (Arrive client op word ∷ es) w opens f past = written_past o es w opens f.0 past
 written_past o (Done arrival taken ∷ es) w opens f past = written_past o es w opens f.0 past

@@ -50,7 +50,7 @@ writes_alike s leaf value filled newest newest' same fresh b low = either (fresh
     })
 
 -- a fetch ends with an eviction
-fetch_evicts : (real : Bool) (s : Shape) (at : ℕ) (leaf : ℕ → ℕ) (resident : ℕ → Bool) (taken own : ℕ → List Entry) (block : ℕ) (value : List ℕ)
+pub fetch_evicts : (real : Bool) (s : Shape) (at : ℕ) (leaf : ℕ → ℕ) (resident : ℕ → Bool) (taken own : ℕ → List Entry) (block : ℕ) (value : List ℕ)
     → (old : ℕ → List Entry) × IsEvicted s (path s.l at) leaf old (after_fetch real s at leaf resident taken own block value)
 fetch_evicts true s at leaf resident taken own block value =
     (put (take_in s.l at resident taken own) block value, eviction_is_placed s (path s.l at) leaf (put (take_in s.l at resident taken own) block value))

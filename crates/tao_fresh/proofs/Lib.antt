@@ -1,4 +1,5 @@
 pub mod CleanNodes
+pub mod CountedCopies
 pub mod FinalLooks
 pub mod FreshCopies
 pub mod FreshWriteBacks

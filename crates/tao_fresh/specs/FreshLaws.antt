@@ -21,6 +21,7 @@ use Rattle.tao_model.specs.OneMore.{with_one_more}
 use Rattle.tao_held.specs.Held.{value_since, value_between, held, found_value, served_answer, newest_entries, is_recent, IsOfProxy}
 use Rattle.tao_contents.specs.FinalArray.{AreAllNodes, seen_array}
 use Rattle.tao_contents.specs.CleanLaws.{CleanResidents}
+use Rattle.tao_contents.specs.Counting.{AreOfTree, HasOneEntry}
 use Rattle.tao_contents.specs.WriteBackLaws.{FreshWrites}
 use Rattle.tao_laws.specs.SettledValues.{settled_value}
 
@@ -62,6 +63,15 @@ present o es = current_contents (λ w. is_resident o es w) (λ w. held o es w) (
 abbrev pub CopiesAreFresh : Type 0
 CopiesAreFresh = (o : Opening) (events : List Event) → IsOfProxy o (reverse events) → Unaltered HasEntriesOf o (reverse events)
     → FreshCopy o.shape (λ b. position o (reverse events) b) (λ b. settled_value o (reverse events) b) (present o (reverse events))
+
+-- The present contents are lists in rising id, with no entry outside the stash and the tree, even if fetched buckets were altered.
+abbrev pub PresentIsOfTree : Type 0
+PresentIsOfTree = (o : Opening) (events : List Event) → IsOfProxy o (reverse events) → AreOfTree o.shape.l (present o (reverse events))
+
+-- If answers were honest, the stash and all nodes have exactly one entry of each block: counted, and not only found by looking it up.
+abbrev pub CopiesAreCounted : Type 0
+CopiesAreCounted = (o : Opening) (events : List Event) (block : ℕ) → IsOfProxy o (reverse events) → Unaltered HasEntriesOf o (reverse events) → block < o.shape.n
+    → HasOneEntry o.shape.l (position o (reverse events) block) block (settled_value o (reverse events) block) (present o (reverse events))
 
 -- If answers were honest, a real fetch found its plain reply.
 abbrev pub FoundIsPlain : Type 0
