@@ -1,7 +1,6 @@
 -- An arrival keeps the invariant.
-use Rattle.std.proofs.Common.{◌≡◌, ℕ, ◌+◌, ◌-◌, ◌^◌, ◌<◌, ◌≤◌, Bool, true, false, not, ◌&&◌, List, [], ◌∷◌, ◌++◌, length, reverse, refl, sym, ap, ap₂, ◌∙◌, subst, arith}
+use Rattle.std.proofs.Common.{◌≡◌, ℕ, ◌+◌, ◌-◌, ◌^◌, ◌<◌, ◌≤◌, Bool, true, false, not, ◌&&◌, List, [], ◌∷◌, ◌++◌, length, reverse, sym, ap, ap₂, ◌∙◌, subst, arith}
 use Rattle.std.specs.Prelude.{slice_index}
-use Rattle.std.proofs.lemmas.Bool.{eq-eqb, true≢false}
 use Rattle.std.proofs.lemmas.List.{get_or_append_left, get_or_push}
 use Rattle.tao_base.specs.declared.calls.Op.{Op}
 use Rattle.tao_base.specs.declared.calls.Op.TheVariants.{Read, Write, Pad}
@@ -10,20 +9,18 @@ use Rattle.tao_base.specs.declared.session.Event.TheVariants.{Arrive}
 use Rattle.tao_base.specs.Session.{Opening, History}
 use Rattle.tao_base.specs.Limits.{Shape, session_limit}
 use Rattle.tao_base.specs.Tree.{leaf_of}
-use Rattle.tao_model.specs.Events.{arrived, dones, issues, acks, is_done, has_fault, names}
-use Rattle.tao_model.specs.Requests.{real_now, fetches, fetched_leaf, position}
+use Rattle.tao_model.specs.Events.{arrived, dones, issues, acks, is_done, has_fault}
+use Rattle.tao_model.specs.Requests.{real_now, word_for, fetches, fetched_leaf}
 use Rattle.tao_model.specs.Lawful.{FollowsLawfully, MayFollow, IsInRange}
-use Rattle.tao_model.specs.OneMore.{with_one_more, AfterArrive}
-use Rattle.tao_model.proofs.OneMoreEvent.{one_more_arrive}
+use Rattle.tao_model.specs.OneMore.{with_one_more}
 use Rattle.tao_model.proofs.Stays.{newest_first}
-use Rattle.tao_laws.proofs.HandedWords.{was_quiet, leaf_is_position}
 use Rattle.tao_laws.proofs.Counts.{count_within}
 use Rattle.tao_tables.specs.Rows.{TellsRows, AddsRow}
 use Rattle.tao_tables.specs.Positions.{TellsPositions}
 use Rattle.tao_tables.specs.Pools.{Pools, HasPools, KeepsPools, AreCounts, ArrivesInRoom}
 use Rattle.tao_tables.proofs.KeptAnswers.{served_else}
 use Rattle.tao_tables.proofs.KeptFlags.{flags_are_told}
-use Rattle.tao_tables.proofs.KeptRows.{rows_are_told, positions_are_told}
+use Rattle.tao_tables.proofs.KeptRows.{rows_are_told, positions_are_told, new_arrivals_leaf}
 use Rattle.tao_tables.proofs.KeptWrites.{writes_are_told}
 use Rattle.tao_tables.proofs.MovedTables.{tells_arrive}
 use Rattle.tao_tables.proofs.PoolRoom.{room_grows, room_arrive, counts_are_known}
@@ -31,11 +28,11 @@ use Rattle.tao_tables.proofs.ProxySteps.{proxy_goes_on, follows_on}
 use Rattle.tao_record.specs.State.{RecordState, added}
 use Rattle.tao_requests.specs.State.{RequestsState, begun, kind_now, is_real_kind}
 use Rattle.tao_requests.proofs.Followed.{following, as_many, follows_arrive, kind_is_real}
-use Rattle.tao_holdings.specs.Holding.{HoldingsState, count_in, leaf_by, one_more}
+use Rattle.tao_holdings.specs.Holding.{HoldingsState, count_in, one_more}
 use Rattle.tao_subtree.specs.Residents.{AreFew}
 use Rattle.tao_processor.specs.declared.fetches.Fetch.{Fetch}
 use Rattle.tao_processor.specs.Steps.{leaf_now}
-use Rattle.tao_processor.specs.Groups.{Parts, IsProcessor, KeepsHoldings, NodesAre, pools_of, no_row, row_leaf, row_word}
+use Rattle.tao_processor.specs.Groups.{Parts, IsProcessor, NodesAre, pools_of, no_row, row_leaf, row_word}
 use Rattle.tao_processor.proofs.DoneReady.{leaf_small}
 
 -- what an arrival finds
@@ -51,34 +48,14 @@ pub record IsReadyToArrive (x : Parts) (client : ℕ) (op : Op) (word : ℕ) : T
       ≡ fetched_leaf x.session.history.opening (with_one_more x.session.history.events (Arrive client op word)) (arrived (reverse x.session.history.events))
   pub small : fetched_leaf x.session.history.opening (with_one_more x.session.history.events (Arrive client op word)) (arrived (reverse x.session.history.events)) < 2 ^ x.session.history.opening.shape.l
 
-leaf_is : (o : Opening) (events : List Event) (client : ℕ) (op : Op) (word : ℕ) (st : HoldingsState) → KeepsHoldings o (reverse events) st → FollowsLawfully o (reverse events)
-    → AfterArrive o (reverse events) (with_one_more events (Arrive client op word)) op word → IsInRange o.shape op → (real : Bool) → real_now (reverse events) op ≡ real
-    → leaf_now real st op word ≡ fetched_leaf o (with_one_more events (Arrive client op word)) (arrived (reverse events))
-leaf_is o events client op word st holds f after range real is = by op real is after range
-  where
-    es : List Event
-    es = reverse events
-
-    place : (b : ℕ) → b < o.shape.n → leaf_by st b ≡ position o es b
-    place b low = ap (λ (s : Shape). leaf_of s.l (slice_index st.words b)) holds.shape ∙ (positions_are_told o events st.words holds.positions).leaves b low
-
-    now : Op → List Event
-    now op = with_one_more events (Arrive client op word)
-
-    own : (op : Op) → AfterArrive o es (now op) op word → real_now es op ≡ false → leaf_of st.shape.l word ≡ fetched_leaf o (now op) (arrived es)
-    own op after fake = ap (λ (s : Shape). leaf_of s.l word) holds.shape ∙ sym (after.leaf_of_word fake)
-
-    of_block : (op : Op) (b : ℕ) → AfterArrive o es (now op) op word → b < o.shape.n → names b op ≡ true → real_now es op ≡ true → leaf_by st b ≡ fetched_leaf o (now op) (arrived es)
-    of_block op b after low named real =
-        place b low ∙ sym ((leaf_is_position o events b f).next_one (was_quiet es op b real named)) ∙ sym (after.leaf_of_block b named real)
-
-    by : (op : Op) (real : Bool) → real_now es op ≡ real → AfterArrive o es (now op) op word → IsInRange o.shape op → leaf_now real st op word ≡ fetched_leaf o (now op) (arrived es)
-    by (Read id) true is after range = of_block (Read id) id after range (eq-eqb id id refl) is
-    by (Read id) false is after range = own (Read id) after is
-    by (Write id value) true is after range = of_block (Write id value) id after range.0 (eq-eqb id id refl) is
-    by (Write id value) false is after range = own (Write id value) after is
-    by Pad true is after range = absurd (true≢false (sym is))
-    by Pad false is after range = own Pad after is
+leaf_by_word : (o : Opening) (st : HoldingsState) (real : Bool) (op : Op) (word : ℕ) → st.shape ≡ o.shape
+    → leaf_now real st op word ≡ leaf_of o.shape.l (word_for (λ b. slice_index st.words b) word real op)
+leaf_by_word o st true (Read id) word same = ap (λ (s : Shape). leaf_of s.l (slice_index st.words id)) same
+leaf_by_word o st true (Write id value) word same = ap (λ (s : Shape). leaf_of s.l (slice_index st.words id)) same
+leaf_by_word o st true Pad word same = ap (λ (s : Shape). leaf_of s.l word) same
+leaf_by_word o st false (Read id) word same = ap (λ (s : Shape). leaf_of s.l word) same
+leaf_by_word o st false (Write id value) word same = ap (λ (s : Shape). leaf_of s.l word) same
+leaf_by_word o st false Pad word same = ap (λ (s : Shape). leaf_of s.l word) same
 
 pub ready_to_arrive : (x : Parts) (client : ℕ) (op : Op) (word : ℕ) → IsProcessor x → x.ready ≡ true → has_fault (reverse x.session.history.events) ≡ false
     → MayFollow x.session.history.opening (reverse x.session.history.events) (Arrive client op word) → IsReadyToArrive x client op word
@@ -96,7 +73,8 @@ ready_to_arrive x client op word is ready running may = record {
       let low = may.1 in
       omega arith;
   leaf = ap (λ t. leaf_now t x.holdings op word) (kind_is_real events x.requests.requests op is.asked.follows)
-      ∙ leaf_is o events client op word x.holdings is.held_is is.record_is.proxy.follows after may.3 (real_now es op) refl;
+      ∙ leaf_by_word o x.holdings (real_now es op) op word is.held_is.shape
+      ∙ sym (new_arrivals_leaf o events client op word x.holdings.words is.held_is.positions lawful);
   small = leaf_small o.shape.l _;
 }
   where
@@ -111,9 +89,6 @@ ready_to_arrive x client op word is ready running may = record {
 
     lawful : FollowsLawfully o (with_one_more events (Arrive client op word))
     lawful = follows_on o events (Arrive client op word) is.record_is.proxy.follows running may
-
-    after : AfterArrive o es (with_one_more events (Arrive client op word)) op word
-    after = one_more_arrive o events client op word lawful
 
     counts : AreCounts x.shape (arrived es) (dones es) (issues es) (acks es)
     counts = subst (λ (s : Shape). AreCounts s (arrived es) (dones es) (issues es) (acks es)) is.record_is.shape (counts_are_known o events is.record_is.proxy.follows)

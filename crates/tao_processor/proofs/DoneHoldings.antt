@@ -1,12 +1,10 @@
 -- How a Done changes holdings and requests.
 use Rattle.std.proofs.Common.{◌≡◌, ℕ, ◌+◌, ◌<◌, Bool, true, false, cond, List, [], ◌∷◌, ◌++◌, reverse, Option, Some, None, All, refl, sym, ap, ap₂, ◌∙◌, subst, nat_eq}
 use Rattle.std.proofs.Math.Path.{fun_ext}
-use Rattle.std.proofs.lemmas.Bool.{true≢false, eqb-true}
+use Rattle.std.proofs.lemmas.Bool.{true≢false}
 use Rattle.std.proofs.lemmas.List.Elements.{All-nil}
 use Rattle.std.specs.Prelude.{slice_set, slice_index, IfSome}
 use Rattle.std.specs.List.{slice_index_or}
-use Rattle.tao_base.specs.declared.calls.Op.{Op}
-use Rattle.tao_base.specs.declared.calls.Op.TheVariants.{Read, Write, Pad}
 use Rattle.tao_base.specs.declared.session.Event.{Event}
 use Rattle.tao_base.specs.declared.session.Event.TheVariants.{Done}
 use Rattle.tao_base.specs.declared.storage.Bucket.{Bucket}
@@ -14,7 +12,7 @@ use Rattle.tao_base.specs.declared.storage.Entry.{Entry}
 use Rattle.tao_base.specs.Session.{Opening}
 use Rattle.tao_base.specs.Limits.{Shape}
 use Rattle.tao_base.specs.Tree.{leaf_of}
-use Rattle.tao_model.specs.Events.{arrived, dones, is_done, names, word_of}
+use Rattle.tao_model.specs.Events.{arrived, dones, is_done, word_of}
 use Rattle.tao_model.specs.Requests.{is_real, fetched_leaf, position}
 use Rattle.tao_model.specs.Placement.{entries_at}
 use Rattle.tao_base.specs.Buckets.{IsInForm}
@@ -25,17 +23,14 @@ use Rattle.tao_flush.specs.Blocks.{IsEntry}
 use Rattle.tao_held.specs.Steps.{take_in, with_path, found_copy, value_or_zeros, put, evict}
 use Rattle.tao_held.specs.Held.{held, after_fetch, found_in, block_on, value_since}
 use Rattle.tao_held.specs.HeldLaws.{AreIdsBelow}
-use Rattle.tao_held.proofs.Blocks as blocks
 use Rattle.tao_tables.specs.Tables.{TellsNodes, MovesTables}
 use Rattle.tao_tables.specs.Answers.{SettlesRight}
 use Rattle.tao_tables.specs.Positions.{TellsPositions, words_done}
 use Rattle.tao_tables.proofs.MovedTables.{tells_done}
-use Rattle.tao_tables.proofs.ServedAnswers.{served_real}
-use Rattle.tao_requests.specs.declared.request.Request.{Request}
-use Rattle.tao_requests.specs.State.{RequestsState, request_at, block_of, op_block}
+use Rattle.tao_tables.proofs.ServedAnswers.{block_is_same, served_real}
+use Rattle.tao_requests.specs.State.{RequestsState, block_of}
 use Rattle.tao_requests.specs.Settling.{settled, value_from, KeepsAnswers}
-use Rattle.tao_requests.specs.Laws.{Follows}
-use Rattle.tao_requests.proofs.Followed.{following, on_is, follows_real, follows_fake}
+use Rattle.tao_requests.proofs.Followed.{follows_real, follows_fake}
 use Rattle.tao_holdings.specs.Holding.{HoldingsState, is_held, contents_in, entries_of, count_in, touch_in, version_in, leaf_by, one_less, touched, AreForms}
 use Rattle.tao_processor.specs.Steps.{Finishes, is_for_block, found_by, put_where, moved_where, settled_where}
 use Rattle.tao_processor.specs.Groups.{KeepsHoldings, KeepsRequests}
@@ -66,18 +61,6 @@ fetch_same true true s at leaf r tk c m n v x e same value = ap₂ (λ (k : ℕ)
 fetch_same true false s at leaf r tk c m n v x e same value = absurd (true≢false e)
 fetch_same false true s at leaf r tk c m n v x e same value = absurd (true≢false (sym e))
 fetch_same false false s at leaf r tk c m n v x e same value = refl
-
-op_named : (block : ℕ) (op : Op) → names block op ≡ true → op_block op ≡ block
-op_named block (Read id) named = eqb-true id block named
-op_named block (Write id value) named = eqb-true id block named
-op_named block Pad named = absurd (true≢false (sym named))
-
--- a real arrival's request is on its block
-pub same_block : (events : List Event) (rs : List Request) (i : ℕ) → Follows events rs → i < arrived (reverse events) → is_real (reverse events) i ≡ true
-    → block_of rs i ≡ block_on (reverse events) i
-same_block events rs i follows there real =
-    op_named (block_on (reverse events) i) (request_at rs i).op
-    (sym (on_is (reverse events) rs (following events rs follows) i (block_on (reverse events) i) there) ∙ blocks.real_on (reverse events) i there real)
 
 stash_below : (s : Shape) (entries : List Entry) → All (IsEntry s) entries → All (λ entry. entry.id < s.n) entries
 stash_below s entries each k d low = (each k d low).0
@@ -119,7 +102,7 @@ done_holdings o events i taken h0 h1 h2 h3 q r holds asks f there open_yet forms
     for_block = asks.follows.kinds i there
 
     on : is_real es i ≡ true → block_of q.requests i ≡ block_on es i
-    on real = same_block events q.requests i asks.follows there real
+    on real = block_is_same events q.requests i asks.follows there real
 
     words1 : h1.words ≡ h0.words
     words1 = ap (λ (h : HoldingsState). h.words) does.nodes_alone

@@ -1,8 +1,6 @@
 -- What a Done finds, and that it keeps the invariant.
-use Rattle.std.proofs.Common.{◌≡◌, ℕ, ◌+◌, ◌-◌, ◌*◌, ◌^◌, ◌<◌, ◌≤◌, Bool, true, false, not, ◌&&◌, ◌||◌, cond, List, [], ◌∷◌, length, filter, reverse, All, refl, sym, ap, ◌∙◌, subst, arith}
+use Rattle.std.proofs.Common.{◌≡◌, ℕ, ◌+◌, ◌*◌, ◌^◌, ◌<◌, ◌≤◌, Bool, true, false, not, ◌||◌, List, [], length, filter, reverse, All, refl, sym, ap, ◌∙◌, subst, arith}
 use Rattle.std.proofs.Math.Pow.{pow_pos}
-use Rattle.std.proofs.lemmas.Bool.{and_from}
-use Rattle.std.proofs.lemmas.Nat.{mul-le}
 use Rattle.std.proofs.lemmas.List.{length-map, get_or_read_under}
 use Rattle.std.proofs.lemmas.List.Elements.{filter_agree}
 use Rattle.std.proofs.lemmas.List.FromFn.{length-map-range_with_len}
@@ -15,16 +13,14 @@ use Rattle.tao_base.specs.Session.{Opening, History}
 use Rattle.tao_base.specs.Limits.{Shape}
 use Rattle.tao_base.specs.Tree.{is_on_path, leaf_of, path, node_at}
 use Rattle.tao_model.specs.Events.{arrived, dones, issues, acks, is_done, is_pad_op, has_fault, word_of}
-use Rattle.tao_model.specs.Requests.{is_real, fetches, fetched_leaf}
+use Rattle.tao_model.specs.Requests.{is_real, fetched_leaf}
 use Rattle.tao_model.specs.Residence.{is_resident}
 use Rattle.tao_model.specs.Trace.{nodes_in}
 use Rattle.tao_base.specs.Buckets.{IsInForm}
 use Rattle.tao_model.specs.Lawful.{FollowsLawfully, MayFollow, touched_after}
 use Rattle.tao_model.specs.OneMore.{with_one_more}
 use Rattle.tao_held.specs.Held.{block_on}
-use Rattle.tao_laws.proofs.Counts.{count_less}
 use Rattle.tao_held.proofs.Blocks as blocks
-use Rattle.tao_tables.specs.Tables.{cover_count}
 use Rattle.tao_tables.specs.WriteBacks.{IsRecentList}
 use Rattle.tao_laws.specs.Counted.{CountsWork}
 use Rattle.tao_tables.specs.Pools.{AreCounts, DoneInRoom}
@@ -42,9 +38,10 @@ use Rattle.tao_held.specs.Steps.{with_path}
 use Rattle.tao_processor.specs.declared.fetches.Fetch.{Fetch}
 use Rattle.tao_processor.specs.Steps.{is_for_block}
 use Rattle.tao_processor.specs.Groups.{Parts, IsProcessor, pools_of, no_row}
-use Rattle.tao_tables.proofs.KeptWrites.{recent_is_short}
+use Rattle.tao_tables.proofs.KeptWrites.{few_pass, recent_is_short}
+use Rattle.tao_tables.proofs.MovedTables.{cover_is_bounded}
+use Rattle.tao_tables.proofs.ServedAnswers.{block_is_same}
 use Rattle.tao_tables.proofs.ProxySteps.{follows_on}
-use Rattle.tao_processor.proofs.DoneHoldings.{same_block}
 
 -- what a Done finds
 pub record IsReadyForDone (x : Parts) (i : ℕ) (taken : List Bucket) : Type 0 where
@@ -71,28 +68,6 @@ pub record IsReadyForDone (x : Parts) (i : ℕ) (taken : List Bucket) : Type 0 w
 pub leaf_small : (l word : ℕ) → leaf_of l word < 2 ^ l
 leaf_small l word = let some = pow_pos l in omega arith
 
-pub filter_shorter : (p : ℕ → Bool) (ns : List ℕ) → length (filter p ns) ≤ length ns
-filter_shorter p [] = omega arith
-filter_shorter p (n ∷ ns) = either (p n) (filter_shorter p ns)
-  where
-    either : (t : Bool) → length (filter p ns) ≤ length ns → length (cond t (n ∷ filter p ns) (filter p ns)) ≤ length (n ∷ ns)
-    either true ih = omega arith
-    either false ih = omega arith
-
--- a fetch under way covers its path
-covers : (o : Opening) (es : List Event) (i w : ℕ) → i < arrived es → is_done es i ≡ false → fetches o es i w ≡ true → 1 ≤ cover_count o es w
-covers o es i w there open_yet on =
-    let less = count_less (λ j. not (is_done es j) && fetches o es j w) i (arrived es) there (and_from (not (is_done es i)) (fetches o es i w) (ap not open_yet) on) in
-    omega arith
-
--- the space for one more path
-space_for : (n d m k p room : ℕ) → n ≤ (d - m * k) * p → d < (m + 1) * k → k * p ≤ room → m * k ≤ d → n + p ≤ room
-space_for n d m k p room few owes fits paced =
-    let next : (m + 1) * k ≡ m * k + k = omega arith in
-    let within : (d - m * k + 1) * p ≤ k * p = mul-le (d - m * k + 1) p k p (omega arith) (omega arith) in
-    let one : (d - m * k + 1) * p ≡ (d - m * k) * p + p = omega arith in
-    omega arith
-
 pub ready_for_done : (x : Parts) (i : ℕ) (taken : List Bucket) → IsProcessor x → has_fault (reverse x.session.history.events) ≡ false
     → MayFollow x.session.history.opening (reverse x.session.history.events) (Done i taken) → IsReadyForDone x i taken
 ready_for_done x i taken is running may = record {
@@ -108,14 +83,16 @@ ready_for_done x i taken is running may = record {
   asked = let many = as_many es rs (following events rs is.asked.follows) in let low = may.1.arrived in omega arith;
   under_way = λ real. (follows_real events rs i taken [] is.asked.follows may.1.arrived (sym kind ∙ real) may.1.under_way).0;
   on_block = λ real. no_pad (block_on es i) (request_at rs i).op (sym (on_is es rs (following events rs is.asked.follows) i (block_on es i) may.1.arrived) ∙ blocks.real_on es i may.1.arrived (sym kind ∙ real));
-  block = λ real. subst (λ b. b < o.shape.n) (sym (same_block events rs i is.asked.follows may.1.arrived (sym kind ∙ real)))
+  block = λ real. subst (λ b. b < o.shape.n) (sym (block_is_same events rs i is.asked.follows may.1.arrived (sym kind ∙ real)))
       (blocks.on_below o es i (block_on es i) is.record_is.proxy.follows may.1.arrived (blocks.real_on es i may.1.arrived (sym kind ∙ real)));
-  begun = λ w on. subst (λ n. 1 ≤ n) (sym (is.held_is.nodes.counts w)) (covers o es i w may.1.arrived may.1.under_way on);
+  begun = λ w on. subst (λ n. 1 ≤ n) (sym (is.held_is.nodes.counts w)) ((cover_is_bounded o events w).some i may.1.arrived may.1.under_way on);
   limit = ((flags_are_told o events x.done_flags x.acked_flags is.flags).done_free i taken lawful).within;
   once = ((flags_are_told o events x.done_flags x.acked_flags is.flags).done_free i taken lawful).down;
   rising = subst (λ (ns : List ℕ). IsStrictlyIncreasing ns) (sym is.writes.touched) short.rises;
-  space = space_for (length x.recent) (dones es) (issues es) o.shape.k (o.shape.l + 1) x.recent_room (subst (λ (ns : List ℕ). length ns ≤ (dones es - issues es * o.shape.k) * (o.shape.l + 1)) (sym is.writes.touched) short.few)
-      may.0 (subst (λ (s : Shape). s.k * (s.l + 1) ≤ x.recent_room) (sym is.record_is.shape) is.recent_fits) work.paced;
+  space =
+      let list = subst (λ (ns : List ℕ). length ns + (o.shape.l + 1) ≤ o.shape.k * (o.shape.l + 1)) (sym is.writes.touched) (short.room may.0) in
+      let fits = subst (λ (s : Shape). s.k * (s.l + 1) ≤ x.recent_room) (sym is.record_is.shape) is.recent_fits in
+      omega (arith, list, fits);
 }
   where
     o : Opening
@@ -145,7 +122,7 @@ ready_for_done x i taken is running may = record {
     few : length taken ≤ o.shape.l + 1
     few =
         let named = sym (length-map taken (λ bucket. bucket.node)) ∙ ap length may.1.nodes in
-        let shorter = filter_shorter (λ node. not (is_resident o es node)) (path o.shape.l (fetched_leaf o es i)) in
+        let shorter = few_pass (λ node. not (is_resident o es node)) (path o.shape.l (fetched_leaf o es i)) in
         let long = length-map-range_with_len (node_at o.shape.l (fetched_leaf o es i)) 0 (o.shape.l + 1) in
         omega (arith, named, shorter, long)
 

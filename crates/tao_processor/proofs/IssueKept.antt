@@ -11,13 +11,13 @@ use Rattle.std.proofs.lemmas.List.Folds.{list_any_at}
 use Rattle.std.proofs.lemmas.List.FromFn.{get_or-range_with_len}
 use Rattle.std.proofs.lemmas.List.FromFn.{length-range_with_len}
 use Rattle.tao_base.specs.declared.session.Event.{Event}
-use Rattle.tao_base.specs.declared.session.Event.TheVariants.{Arrive, Done, Issue, Acked, Fault}
+use Rattle.tao_base.specs.declared.session.Event.TheVariants.{Issue}
 use Rattle.tao_base.specs.declared.storage.Bucket.{Bucket}
 use Rattle.tao_base.specs.declared.storage.Entry.{Entry}
 use Rattle.tao_base.specs.Session.{Opening, History}
 use Rattle.tao_base.specs.Limits.{Shape, session_limit}
 use Rattle.tao_base.specs.Tree.{node_count}
-use Rattle.tao_model.specs.Events.{arrived, dones, issues, acks, buckets_issued, has_fault}
+use Rattle.tao_model.specs.Events.{arrived, dones, issues, acks, has_fault}
 use Rattle.tao_model.specs.Residence.{last_touch}
 use Rattle.tao_base.specs.Buckets.{IsInForm}
 use Rattle.tao_model.specs.Lawful.{FollowsLawfully, MayBeIssued, touched_after}
@@ -25,7 +25,7 @@ use Rattle.tao_model.specs.OneMore.{with_one_more}
 use Rattle.tao_model.proofs.NewestWrites.{newest_is_greatest}
 use Rattle.tao_model.proofs.Stays.{newest_first}
 use Rattle.tao_model.proofs.LawfulToWhole.{follows_opening}
-use Rattle.tao_laws.proofs.RecentNodes.{bucket_in, recent_is_resident}
+use Rattle.tao_laws.proofs.RecentNodes.{recent_is_resident}
 use Rattle.tao_held.specs.Held.{held}
 use Rattle.tao_tables.specs.Tables.{TellsNodes}
 use Rattle.tao_tables.specs.Positions.{TellsPositions}
@@ -36,7 +36,7 @@ use Rattle.tao_laws.proofs.CountedWork.{work_is_counted}
 use Rattle.tao_tables.proofs.KeptAnswers.{served_else}
 use Rattle.tao_tables.proofs.KeptFlags.{flags_are_told}
 use Rattle.tao_tables.proofs.KeptRows.{rows_are_told, positions_are_told}
-use Rattle.tao_tables.proofs.KeptWrites.{writes_are_told, recent_is_short, issue_may_follow}
+use Rattle.tao_tables.proofs.KeptWrites.{writes_are_told, recent_is_short, issue_may_follow, bucket_there, nonces_are_few}
 use Rattle.tao_tables.proofs.MovedTables.{tells_issue}
 use Rattle.tao_tables.proofs.PoolRoom.{room_issue, room_grows, counts_are_known}
 use Rattle.tao_tables.proofs.ProxySteps.{proxy_goes_on, follows_on}
@@ -46,7 +46,6 @@ use Rattle.tao_holdings.specs.Holding.{HoldingsState, is_held, contents_in, coun
 use Rattle.tao_holdings.specs.Lists.{with_entries_of}
 use Rattle.tao_processor.specs.Steps.{IsNodeOf, IsEmpty, stamps, written_of, HoldsAgain}
 use Rattle.tao_processor.specs.Groups.{Parts, IsProcessor, NodesAre, pools_of}
-use Rattle.tao_processor.proofs.DoneReady.{filter_shorter}
 use Rattle.tao_processor.proofs.WrittenBack.{stamps_len, stamp_there, all_stamps, stamps_nodes, nodes_stay}
 
 -- ---- lists
@@ -74,21 +73,6 @@ nonces_count c nodes v n = same_lists (map (λ bucket. bucket.nonce) (written_of
 
 written_len : (c : ℕ → List Entry) (nodes : List ℕ) (v n : ℕ) → length (written_of c nodes v n) ≡ length nodes
 written_len c nodes v n = length-map (stamps nodes v n) (with_entries_of c) ∙ stamps_len nodes v n
-
--- so few buckets are issued that nonces don't overflow
-nonces_few : (o : Opening) (es : List Event) → FollowsLawfully o es → buckets_issued es ≤ issues es * node_count o.shape.l
-nonces_few o [] f = omega arith
-nonces_few o (Arrive client op word ∷ es) f = nonces_few o es f.0
-nonces_few o (Done arrival taken ∷ es) f = nonces_few o es f.0
-nonces_few o (Issue version nonce buckets ∷ es) f =
-    let before = nonces_few o es f.0 in
-    let named = sym (length-map buckets (λ bucket. bucket.node)) ∙ ap length f.2.nodes in
-    let shorter = filter_shorter (λ node. nat_lt (issues es * o.shape.k) (last_touch o es node)) (range_with_len 1 (node_count o.shape.l)) in
-    let all = length-range_with_len 1 (node_count o.shape.l) in
-    let next : (issues es + 1) * node_count o.shape.l ≡ issues es * node_count o.shape.l + node_count o.shape.l = omega arith in
-    omega (arith, before, named, shorter, all, next)
-nonces_few o (Acked version ∷ es) f = nonces_few o es f.0
-nonces_few o (Fault cause ∷ es) f = nonces_few o es f.0
 
 -- ---- the event
 
@@ -129,7 +113,7 @@ ready_to_issue x is due = record {
       let tall = (follows_opening o es is.record_is.proxy.follows).shape.height_high in
       let high : o.shape.l + 1 ≤ 17 = omega arith in
       let wide : 2 ^ (o.shape.l + 1) ≤ 2 ^ 17 = pow_mono {j = 17} high in
-      let nonces = nonces_few o es is.record_is.proxy.follows in
+      let nonces = nonces_are_few o events is.record_is.proxy.follows in
       let a = work.written in
       let b = work.limit in
       let limit : session_limit o.shape ≤ 65536 = omega arith in
@@ -264,7 +248,7 @@ issue_keeps {x} {version} {nonce} {recent_room} {place_room} {session} {h1} {h2}
     told : TellsNodes o now (λ w. is_held x.holdings w) (λ w. contents_in x.holdings w) (λ w. count_in x.holdings w) (λ w. touch_in x.holdings w) (λ w. version_in h2 w)
     told = tells_issue o events version x.next_nonce buckets (λ w. is_held x.holdings w) (λ w. contents_in x.holdings w) _ _ (λ w. version_in x.holdings w) (λ w. version_in h2 w) is.held_is.nodes
         (λ w. ap (λ (g : ℕ → ℕ). g w) (does.versions ∙ ap (λ (g : ℕ → ℕ). written_at x.recent version g) (ap (λ (st : HoldingsState). version_in st) does.again.others))
-        ∙ ap (λ t. cond t version (version_in x.holdings w)) (sym (bucket_in w buckets ∙ ap (list_any (λ v. nat_eq v w)) stamped.nodes)))
+        ∙ ap (λ t. cond t version (version_in x.holdings w)) (sym (bucket_there w buckets ∙ ap (list_any (λ v. nat_eq v w)) stamped.nodes)))
 
     nodes : NodesAre o now h2
     nodes = record {

@@ -1,9 +1,6 @@
 -- A new processor meets the invariant.
-use Rattle.std.proofs.Common.{◌≡◌, ℕ, ◌+◌, ◌*◌, ◌<◌, ◌≤◌, Bool, true, false, ◌&&◌, ◌-◌, cond, List, [], ◌∷◌, map, nat_lt, length, replicate, All, None, is_some, refl, sym, ap, ◌∙◌, subst, arith, nat_eq, get_or, inl, inr, ◌⊎◌}
-use Rattle.std.specs.Prelude.{slice_index}
-use Rattle.std.specs.List.{slice_index_or, range_with_len}
-use Rattle.std.proofs.lemmas.List.Elements.{All-map}
-use Rattle.std.proofs.lemmas.List.FromFn.{length-map-range_with_len, get_or-map-range_with_len}
+use Rattle.std.proofs.Common.{◌≡◌, ℕ, ◌+◌, ◌*◌, ◌<◌, ◌≤◌, Bool, false, cond, List, [], length, replicate, All, None, is_some, refl, sym, ap, ◌∙◌, subst, arith, nat_eq, get_or, inl, inr, ◌⊎◌}
+use Rattle.std.specs.List.{slice_index_or}
 use Rattle.std.proofs.lemmas.Bool.{cases_lt}
 use Rattle.std.proofs.lemmas.List.{get_or-replicate, length-replicate}
 use Rattle.std.proofs.Math.ListN.{get_or-eq_default}
@@ -12,17 +9,13 @@ use Rattle.tao_base.specs.declared.storage.Bucket.{Bucket}
 use Rattle.tao_base.specs.declared.storage.Entry.{Entry}
 use Rattle.tao_base.specs.Session.{Opening}
 use Rattle.tao_base.specs.Limits.{Shape, IsShape, session_limit}
-use Rattle.tao_base.specs.Tree.{node_count, is_on_path, leaf_of}
-use Rattle.tao_flush.specs.Blocks.{AreNodeEntries}
+use Rattle.tao_base.specs.Tree.{node_count}
 use Rattle.tao_flush.specs.Loads.{IsLoaded}
 use Rattle.tao_model.specs.Requests.{leaf_at}
-use Rattle.tao_model.specs.Events.{word_of}
-use Rattle.tao_model.specs.Trace.{nodes_in}
-use Rattle.tao_base.specs.Buckets.{IsInForm, Rises}
-use Rattle.tao_model.specs.Placement.{IsPlaced, may_load, block_below, with_stash, entries_at}
-use Rattle.tao_model.specs.Evictions.{first_bucket, load_contents}
+use Rattle.tao_model.specs.Placement.{may_load, block_below, with_stash, entries_at}
+use Rattle.tao_model.specs.Evictions.{load_contents}
 use Rattle.tao_model.proofs.OneLoad.{load_pass}
-use Rattle.tao_model.proofs.OnePlacement.{one_placement, placed_alike}
+use Rattle.tao_model.proofs.OnePlacement.{one_placement}
 use Rattle.tao_model.specs.Lawful.{OpensWithLoad, IsOpening}
 use Rattle.tao_tables.proofs.KeptAnswers.{served_at_start}
 use Rattle.tao_tables.proofs.KeptFlags.{flags_at_start}
@@ -30,6 +23,7 @@ use Rattle.tao_tables.proofs.KeptRows.{rows_at_start, positions_at_start}
 use Rattle.tao_tables.proofs.KeptWrites.{writes_at_start}
 use Rattle.tao_tables.proofs.MovedTables.{tells_start}
 use Rattle.tao_tables.proofs.PoolRoom.{room_at_start}
+use Rattle.tao_tables.proofs.ProxySteps.{opens_by_load}
 use Rattle.tao_record.specs.State.{RecordState, opened, issue_len}
 use Rattle.tao_processor.specs.declared.fetches.Fetch.{Fetch}
 use Rattle.tao_requests.specs.State.{RequestsState, fresh}
@@ -37,69 +31,6 @@ use Rattle.tao_requests.proofs.Followed.{follows_none}
 use Rattle.tao_holdings.specs.Holding.{HoldingsState, is_held, contents_in, entries_of, count_in, touch_in, version_in, leaf_by, none_held}
 use Rattle.tao_processor.specs.Steps.{AreEmptyBuckets}
 use Rattle.tao_processor.specs.Groups.{IsProcessor, row_leaf, row_word}
-
-first_nodes : (contents : ℕ → List Entry) (ns : List ℕ) → nodes_in (map (first_bucket contents) ns) ≡ ns
-first_nodes contents [] = refl
-first_nodes contents (n ∷ ns) = ap (λ (rest : List ℕ). n ∷ rest) (first_nodes contents ns)
-
-first_nonces : (contents : ℕ → List Entry) (ns : List ℕ) → map (λ bucket. bucket.nonce) (map (first_bucket contents) ns) ≡ ns
-first_nonces contents [] = refl
-first_nonces contents (n ∷ ns) = ap (λ (rest : List ℕ). n ∷ rest) (first_nonces contents ns)
-
--- the load that the holdings were made with is that of an opening
-opens : (s : Shape) (words : List ℕ) (blocks : List (List ℕ)) (loaded : List Bucket) (stash : List Entry) → IsOpening (record { shape = s; words = words; first = blocks; loaded = loaded })
-    → IsLoaded s (leaf_by (none_held s stash words)) blocks loaded stash → All (λ bucket. AreNodeEntries s bucket.entries) loaded
-    → OpensWithLoad (record { shape = s; words = words; first = blocks; loaded = loaded })
-    × (stash ≡ load_contents s (λ block. leaf_at (record { shape = s; words = words; first = blocks; loaded = loaded }) [] block) blocks 0)
-opens s words blocks loaded stash opening load forms = (
-  record {
-    numbered = record {
-      nodes = ap nodes_in load.first ∙ first_nodes contents (range_with_len 1 (node_count s.l));
-      versions = subst (λ (bs : List Bucket). All (λ bucket. bucket.version ≡ 0) bs) (sym load.first) (All-map (λ bucket. bucket.version ≡ 0) (first_bucket contents) (range_with_len 1 (node_count s.l)) (λ k d low. refl));
-      nonces = ap (λ (bs : List Bucket). map (λ bucket. bucket.nonce) bs) load.first ∙ first_nonces contents (range_with_len 1 (node_count s.l));
-    };
-    in_form = form;
-    placed = (stash, placed);
-  },
-  one_placement (may_load s leaf0) (node_count s.l) s.z (block_below s.n blocks) (with_stash stash (entries_at loaded)) (load_contents s leaf0 blocks) placed (load_pass s leaf0 blocks) 0,
-)
-  where
-    leaf : ℕ → ℕ
-    leaf = leaf_by (none_held s stash words)
-
-    leaf0 : ℕ → ℕ
-    leaf0 block = leaf_at (record { shape = s; words = words; first = blocks; loaded = loaded }) [] block
-
-    contents : ℕ → List Entry
-    contents = load_contents s leaf blocks
-
-    alike : (b w : ℕ) → may_load s leaf b w ≡ may_load s leaf0 b w
-    alike b w = either (nat_lt b s.n)
-      where
-        either : (t : Bool) → (t && is_on_path s.l (leaf_of s.l (slice_index words b)) w) ≡ (t && is_on_path s.l (leaf_of s.l (cond t (slice_index words b) (word_of [] (b - s.n)))) w)
-        either true = refl
-        either false = refl
-
-    placed : IsPlaced (may_load s leaf0) (node_count s.l) s.z (block_below s.n blocks) (with_stash stash (entries_at loaded))
-    placed = placed_alike (may_load s leaf) (may_load s leaf0) (node_count s.l) s.z (block_below s.n blocks) (block_below s.n blocks) (with_stash stash (entries_at loaded)) (with_stash stash (entries_at loaded))
-        alike (λ b. refl) (λ w. refl) load.placed
-
-    form : All (IsInForm s) loaded
-    form k d low =
-        let long : length loaded ≡ node_count s.l = ap (λ (bs : List Bucket). length bs) load.first ∙ length-map-range_with_len (first_bucket contents) 1 (node_count s.l) in
-        let is : get_or loaded k d ≡ first_bucket contents (1 + k) =
-        ap (λ (bs : List Bucket). get_or bs k d) load.first ∙ get_or-map-range_with_len (first_bucket contents) 1 (node_count s.l) k (1 + k) d (omega (arith, low, long)) refl in
-        let fits = forms k d low in
-        record {
-          low = subst (λ (x : Bucket). 1 ≤ x.node) (sym is) (omega arith);
-          high = subst (λ (x : Bucket). x.node ≤ node_count s.l) (sym is) (omega (arith, low, long));
-          entries = record {
-            few = fits.few;
-            rising = subst (λ (x : Bucket). Rises 0 x.entries) (sym is) ((load_pass s leaf blocks).rises (1 + k));
-            ids = λ j e there. (fits.each j e there).0;
-            values = λ j e there. (fits.each j e there).1;
-          };
-        }
 
 none_at : {X : Type 0} (n w : ℕ) (x d : X) → x ≡ d → get_or (replicate n x) w d ≡ d
 none_at n w x d same = either (cases_lt w n)
@@ -110,7 +41,7 @@ none_at n w x d same = either (cases_lt w n)
 
 pub opened_keeps : (s : Shape) (words : List ℕ) (blocks : List (List ℕ)) (loaded written : List Bucket) (stash : List Entry) (row_room place_room recent_room orders stock : ℕ) → IsShape s → length words ≡ s.n
     → length blocks ≡ s.n → All (λ value. length value ≡ s.b) blocks → IsLoaded s (leaf_by (none_held s stash words)) blocks loaded stash
-    → All (λ bucket. AreNodeEntries s bucket.entries) loaded → AreEmptyBuckets (issue_len s) written → s.k * (s.l + 1) ≤ recent_room
+    → AreEmptyBuckets (issue_len s) written → s.k * (s.l + 1) ≤ recent_room
     → IsProcessor (record {
       shape = s;
       session = opened s words blocks loaded;
@@ -136,7 +67,7 @@ pub opened_keeps : (s : Shape) (words : List ℕ) (blocks : List (List ℕ)) (lo
       stock_count = stock;
       ready = false;
     })
-opened_keeps s words blocks loaded written stash row_room place_room recent_room orders stock shape word_count block_count values load forms empties wide = record {
+opened_keeps s words blocks loaded written stash row_room place_room recent_room orders stock shape word_count block_count values load empties wide = record {
   record_is = record { shape = refl; proxy = record { opens = start.0; follows = opening; writes = tt } };
   held_is = record {
     shape = refl;
@@ -165,7 +96,12 @@ opened_keeps s words blocks loaded written stash row_room place_room recent_room
     opening = record { shape = shape; words = word_count; blocks = block_count; values = values }
 
     start : OpensWithLoad o × (stash ≡ load_contents s (λ block. leaf_at o [] block) blocks 0)
-    start = opens s words blocks loaded stash opening load forms
+    start =
+        let leaf = leaf_by st in
+        let loads = opens_by_load o leaf opening (λ b low. refl) load.first in (
+          loads.0,
+          one_placement (may_load s leaf) (node_count s.l) s.z (block_below s.n blocks) (with_stash stash (entries_at loaded)) (load_contents s leaf blocks) load.placed (load_pass s leaf blocks) 0 ∙ loads.1,
+        )
 
     away : (w : ℕ) → slice_index_or st.nodes w None ≡ None
     away w = none_at _ w None None refl
@@ -176,10 +112,10 @@ opened_keeps s words blocks loaded written stash row_room place_room recent_room
 -- this holds for these parts
 pub opened_from : {s : Shape} {words : List ℕ} {blocks : List (List ℕ)} {loaded written : List Bucket} {stash : List Entry} {row_room place_room recent_room orders stock : ℕ} {v_session : RecordState} {v_requests : RequestsState} {v_done_flags : List Bool} {v_acked_flags : List Bool} {v_rows : List Fetch} {v_row_count : ℕ} {v_recent : List ℕ} {v_places : List ℕ} {v_next_nonce : ℕ} {v_holdings : HoldingsState} {v_values : List (List ℕ)} {v_value_count : ℕ}
     → IsShape s → length words ≡ s.n → length blocks ≡ s.n → All (λ value. length value ≡ s.b) blocks → IsLoaded s (leaf_by (none_held s stash words)) blocks loaded stash
-    → All (λ bucket. AreNodeEntries s bucket.entries) loaded → AreEmptyBuckets (issue_len s) written → s.k * (s.l + 1) ≤ recent_room
+    → AreEmptyBuckets (issue_len s) written → s.k * (s.l + 1) ≤ recent_room
     → v_session ≡ opened s words blocks loaded → v_requests ≡ fresh s → v_done_flags ≡ replicate (session_limit s) false → v_acked_flags ≡ replicate (session_limit s) false → v_rows ≡ [] → v_row_count ≡ 0 → v_recent ≡ [] → v_places ≡ [] → v_next_nonce ≡ node_count s.l + 1 → v_holdings ≡ none_held s stash words → v_values ≡ [] → v_value_count ≡ 0
     → IsProcessor (record { shape = s; session = v_session; requests = v_requests; done_flags = v_done_flags; acked_flags = v_acked_flags; rows = v_rows; row_count = v_row_count; row_room = row_room; recent = v_recent; recent_room = recent_room; places = v_places; place_room = place_room; done_count = 0; issue_count = 0; ack_count = 0; next_nonce = v_next_nonce; holdings = v_holdings; written = written; values = v_values; value_count = v_value_count; order_count = orders; stock_count = stock; ready = false })
-opened_from {s} {words} {blocks} {loaded} {written} {stash} {row_room} {place_room} {recent_room} {orders} {stock} {v_session} {v_requests} {v_done_flags} {v_acked_flags} {v_rows} {v_row_count} {v_recent} {v_places} {v_next_nonce} {v_holdings} {v_values} {v_value_count} shape word_count block_count values load forms empties wide e_session e_requests e_done_flags e_acked_flags e_rows e_row_count e_recent e_places e_next_nonce e_holdings e_values e_value_count =
+opened_from {s} {words} {blocks} {loaded} {written} {stash} {row_room} {place_room} {recent_room} {orders} {stock} {v_session} {v_requests} {v_done_flags} {v_acked_flags} {v_rows} {v_row_count} {v_recent} {v_places} {v_next_nonce} {v_holdings} {v_values} {v_value_count} shape word_count block_count values load empties wide e_session e_requests e_done_flags e_acked_flags e_rows e_row_count e_recent e_places e_next_nonce e_holdings e_values e_value_count =
     (subst (λ (z : RecordState). IsProcessor (record { shape = s; session = z; requests = v_requests; done_flags = v_done_flags; acked_flags = v_acked_flags; rows = v_rows; row_count = v_row_count; row_room = row_room; recent = v_recent; recent_room = recent_room; places = v_places; place_room = place_room; done_count = 0; issue_count = 0; ack_count = 0; next_nonce = v_next_nonce; holdings = v_holdings; written = written; values = v_values; value_count = v_value_count; order_count = orders; stock_count = stock; ready = false })) (sym e_session)
     (subst (λ (z : RequestsState). IsProcessor (record { shape = s; session = opened s words blocks loaded; requests = z; done_flags = v_done_flags; acked_flags = v_acked_flags; rows = v_rows; row_count = v_row_count; row_room = row_room; recent = v_recent; recent_room = recent_room; places = v_places; place_room = place_room; done_count = 0; issue_count = 0; ack_count = 0; next_nonce = v_next_nonce; holdings = v_holdings; written = written; values = v_values; value_count = v_value_count; order_count = orders; stock_count = stock; ready = false })) (sym e_requests)
     (subst (λ (z : List Bool). IsProcessor (record { shape = s; session = opened s words blocks loaded; requests = fresh s; done_flags = z; acked_flags = v_acked_flags; rows = v_rows; row_count = v_row_count; row_room = row_room; recent = v_recent; recent_room = recent_room; places = v_places; place_room = place_room; done_count = 0; issue_count = 0; ack_count = 0; next_nonce = v_next_nonce; holdings = v_holdings; written = written; values = v_values; value_count = v_value_count; order_count = orders; stock_count = stock; ready = false })) (sym e_done_flags)
@@ -192,4 +128,4 @@ opened_from {s} {words} {blocks} {loaded} {written} {stash} {row_room} {place_ro
     (subst (λ (z : HoldingsState). IsProcessor (record { shape = s; session = opened s words blocks loaded; requests = fresh s; done_flags = replicate (session_limit s) false; acked_flags = replicate (session_limit s) false; rows = []; row_count = 0; row_room = row_room; recent = []; recent_room = recent_room; places = []; place_room = place_room; done_count = 0; issue_count = 0; ack_count = 0; next_nonce = node_count s.l + 1; holdings = z; written = written; values = v_values; value_count = v_value_count; order_count = orders; stock_count = stock; ready = false })) (sym e_holdings)
     (subst (λ (z : List (List ℕ)). IsProcessor (record { shape = s; session = opened s words blocks loaded; requests = fresh s; done_flags = replicate (session_limit s) false; acked_flags = replicate (session_limit s) false; rows = []; row_count = 0; row_room = row_room; recent = []; recent_room = recent_room; places = []; place_room = place_room; done_count = 0; issue_count = 0; ack_count = 0; next_nonce = node_count s.l + 1; holdings = none_held s stash words; written = written; values = z; value_count = v_value_count; order_count = orders; stock_count = stock; ready = false })) (sym e_values)
     (subst (λ (z : ℕ). IsProcessor (record { shape = s; session = opened s words blocks loaded; requests = fresh s; done_flags = replicate (session_limit s) false; acked_flags = replicate (session_limit s) false; rows = []; row_count = 0; row_room = row_room; recent = []; recent_room = recent_room; places = []; place_room = place_room; done_count = 0; issue_count = 0; ack_count = 0; next_nonce = node_count s.l + 1; holdings = none_held s stash words; written = written; values = []; value_count = z; order_count = orders; stock_count = stock; ready = false })) (sym e_value_count)
-    (opened_keeps s words blocks loaded written stash row_room place_room recent_room orders stock shape word_count block_count values load forms empties wide)))))))))))))
+    (opened_keeps s words blocks loaded written stash row_room place_room recent_room orders stock shape word_count block_count values load empties wide)))))))))))))

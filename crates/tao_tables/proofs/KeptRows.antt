@@ -1,24 +1,26 @@
 -- Rows and positions under one more event. The events `es` are newest first.
 use Rattle.std.proofs.Common.{◌≡◌, ℕ, ◌+◌, ◌<◌, ◌≤◌, Bool, true, false, ◌&&◌, cond, List, [], ◌∷◌, ◌++◌, reverse, length, set, get_or, refl, sym, ap, ◌∙◌, subst, arith, inl, inr, ◌⊎◌}
-use Rattle.std.proofs.lemmas.Bool.{cases_lt, cases_eq, eq-eqb, lt-ltb, false_from_ne_true}
+use Rattle.std.specs.Prelude.{slice_index}
+use Rattle.std.proofs.lemmas.Bool.{cases_lt, cases_eq, eq-eqb, lt-ltb, true≢false, false_from_ne_true}
 use Rattle.std.proofs.lemmas.List.{length-set, get_or-set_same, get_or-set_other}
 use Rattle.tao_base.specs.declared.calls.Op.{Op}
+use Rattle.tao_base.specs.declared.calls.Op.TheVariants.{Read, Write, Pad}
 use Rattle.tao_base.specs.declared.session.Event.{Event}
 use Rattle.tao_base.specs.declared.session.Event.TheVariants.{Arrive, Done, Issue, Acked, Fault}
 use Rattle.tao_base.specs.declared.storage.Bucket.{Bucket}
 use Rattle.tao_base.specs.Session.{Opening}
 use Rattle.tao_base.specs.Tree.{leaf_of}
 use Rattle.tao_model.specs.Events.{arrived, is_on, word_of, word_at}
-use Rattle.tao_model.specs.Requests.{is_real, fetched_leaf, position_word}
-use Rattle.tao_model.specs.Lawful.{FollowsLawfully}
+use Rattle.tao_model.specs.Requests.{is_real, real_now, word_for, fetched_leaf, position, position_word}
+use Rattle.tao_model.specs.Lawful.{FollowsLawfully, IsInRange}
 use Rattle.tao_model.proofs.Stays.{newest_first, word_stays, place_stays}
 use Rattle.tao_model.proofs.Places.{leaf_stays_later, position_below}
-use Rattle.tao_model.specs.OneMore.{AfterArrive}
+use Rattle.tao_model.specs.OneMore.{with_one_more, AfterArrive}
 use Rattle.tao_model.proofs.OneMoreEvent.{done_word, one_more_arrive}
 use Rattle.tao_laws.proofs.HandedWords.{was_quiet, leaf_is_position}
 use Rattle.tao_held.specs.Held.{block_on}
 use Rattle.tao_held.proofs.Blocks.{real_on, on_is}
-use Rattle.tao_tables.specs.Rows.{TellsRows, AddsRow, RowsAreTold, RowsAtStart, ArrivalFetches}
+use Rattle.tao_tables.specs.Rows.{TellsRows, AddsRow, RowsAreTold, RowsAtStart, ArrivalLeaf, ArrivalFetches, NewArrivalsLeaf}
 use Rattle.tao_tables.specs.Positions.{TellsPositions, PositionsAreTold, PositionsAtStart}
 
 -- ---- rows
@@ -122,3 +124,22 @@ arrival_fetches o events client op word f = record {
 
     before : FollowsLawfully o (reverse events)
     before = let f' : FollowsLawfully o (Arrive client op word ∷ reverse events) = subst (FollowsLawfully o) (newest_first events (Arrive client op word)) f in f'.0
+
+pub new_arrivals_leaf : NewArrivalsLeaf
+new_arrivals_leaf o events client op word words tells f =
+    by op (with_one_more events (Arrive client op word)) range (arrival_fetches o events client op word f) (real_now (reverse events) op) refl
+  where
+    range : IsInRange o.shape op
+    range = let f' : FollowsLawfully o (Arrive client op word ∷ reverse events) = subst (FollowsLawfully o) (newest_first events (Arrive client op word)) f in f'.2.3
+
+    place : (b : ℕ) → b < o.shape.n → leaf_of o.shape.l (slice_index words b) ≡ position o (reverse events) b
+    place b low = (positions_are_told o events words tells).leaves b low
+
+    by : (op : Op) (now : List Event) → IsInRange o.shape op → ArrivalLeaf o (reverse events) now op word → (real : Bool) → real_now (reverse events) op ≡ real
+        → fetched_leaf o now (arrived (reverse events)) ≡ leaf_of o.shape.l (word_for (λ b. slice_index words b) word real op)
+    by (Read id) now low leaf true is = leaf.real id (eq-eqb id id refl) is ∙ sym (place id low)
+    by (Read id) now low leaf false is = leaf.fake is
+    by (Write id value) now range leaf true is = leaf.real id (eq-eqb id id refl) is ∙ sym (place id range.0)
+    by (Write id value) now range leaf false is = leaf.fake is
+    by Pad now range leaf true is = absurd (true≢false (sym is))
+    by Pad now range leaf false is = leaf.fake is

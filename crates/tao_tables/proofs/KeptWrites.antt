@@ -20,9 +20,9 @@ use Rattle.tao_model.proofs.FallingPaths.{has, on_path_has}
 use Rattle.tao_model.proofs.LawfulToWhole.{paced}
 use Rattle.tao_model.proofs.NewestWrites.{newest_within}
 use Rattle.tao_laws.proofs.Listings.{has_filter, has_range, range_has}
-use Rattle.tao_laws.proofs.RecentNodes.{touch_within, recent_from, leaf_low, fetched_in_tree}
+use Rattle.tao_laws.proofs.RecentNodes.{touch_within, recent_from, leaf_low, fetched_in_tree, bucket_in}
 use Rattle.tao_laws.proofs.CountedWork.{owed_once}
-use Rattle.tao_tables.specs.WriteBacks.{IsIssueAt, TellsWrites, PutsPath, WritesAreTold, WritesAtStart, RecentIsShort, IssueMayFollow}
+use Rattle.tao_tables.specs.WriteBacks.{IsIssueAt, TellsWrites, PutsPath, WritesAreTold, WritesAtStart, RecentIsShort, IssueMayFollow, BucketThere, NoncesAreFew}
 use Rattle.tao_tables.proofs.RisingLists.{one_rising_list, part_rises, path_rises}
 
 -- ---- the recent nodes
@@ -86,7 +86,7 @@ few_more p q r (x ∷ xs) split = either (r x) (p x) (q x) (split x) (few_more p
     either false false true some ih = omega arith
     either false false false some ih = ih
 
-few_pass : (p : ℕ → Bool) (xs : List ℕ) → length (filter p xs) ≤ length xs
+pub few_pass : (p : ℕ → Bool) (xs : List ℕ) → length (filter p xs) ≤ length xs
 few_pass p [] = omega arith
 few_pass p (x ∷ xs) = either (p x) (few_pass p xs)
   where
@@ -277,3 +277,25 @@ issue_may_follow o events recent places n m a nonce buckets tells full stamped =
   counts_on = tells.next;
   nonces = stamped.nonces;
 }
+
+-- ---- the buckets of a write-back
+
+pub bucket_there : BucketThere
+bucket_there w buckets = bucket_in w buckets
+
+nonces_few : (o : Opening) (es : List Event) → FollowsLawfully o es → buckets_issued es ≤ issues es * node_count o.shape.l
+nonces_few o [] f = omega arith
+nonces_few o (Arrive client op word ∷ es) f = nonces_few o es f.0
+nonces_few o (Done i taken ∷ es) f = nonces_few o es f.0
+nonces_few o (Issue version nonce buckets ∷ es) f =
+    let before = nonces_few o es f.0 in
+    let named = sym (length-map buckets (λ bucket. bucket.node)) ∙ ap length f.2.nodes in
+    let shorter = few_pass (λ node. nat_lt (issues es * o.shape.k) (last_touch o es node)) (range_with_len 1 (node_count o.shape.l)) in
+    let all = length-range_with_len 1 (node_count o.shape.l) in
+    let next : (issues es + 1) * node_count o.shape.l ≡ issues es * node_count o.shape.l + node_count o.shape.l = omega arith in
+    omega (arith, before, named, shorter, all, next)
+nonces_few o (Acked version ∷ es) f = nonces_few o es f.0
+nonces_few o (Fault cause ∷ es) f = nonces_few o es f.0
+
+pub nonces_are_few : NoncesAreFew
+nonces_are_few o events f = nonces_few o (reverse events) f

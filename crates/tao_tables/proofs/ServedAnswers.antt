@@ -26,12 +26,19 @@ use Rattle.tao_requests.proofs.PlainAnswers.{answers_are_plain, value_is_plain}
 use Rattle.tao_held.specs.Held.{held, found_in, found_value, block_on, value_since, value_between, served_answer}
 use Rattle.tao_held.proofs.Blocks as blocks
 use Rattle.tao_held.proofs.HeldAnswers.{since_fold, between_fold, served_stays_once}
-use Rattle.tao_tables.specs.Answers.{AreServed, SettlesRight, ServedReal}
+use Rattle.tao_tables.specs.Answers.{AreServed, BlockIsSame, SettlesRight, ServedReal}
 
 op_named : (block : ℕ) (op : Op) → names block op ≡ true → op_block op ≡ block
 op_named block (Read id) named = eqb-true id block named
 op_named block (Write id value) named = eqb-true id block named
 op_named block Pad named = absurd (true≢false (sym named))
+
+block_same : (es : List Event) (rs : List Request) (i : ℕ) → Following es rs → i < arrived es → is_real es i ≡ true → block_of rs i ≡ block_on es i
+block_same es rs i follows there real =
+    op_named (block_on es i) (request_at rs i).op (sym (on_is es rs follows i (block_on es i) there) ∙ blocks.real_on es i there real)
+
+pub block_is_same : BlockIsSame
+block_is_same events rs i follows there real = block_same (reverse events) rs i (following events rs follows) there real
 
 -- the operations from an arrival on, as the record and as the requests have them
 ops_listed_from : (es : List Event) (rs : List Request) (i : ℕ) → Following es rs → ops_from i rs ≡ drop i (ops (reverse es))
@@ -115,7 +122,7 @@ served_from o es i taken x rs f follows served real found keeps = record {
     on = blocks.real_on es i may.arrived real
 
     same_block : block_of rs i ≡ block_on es i
-    same_block = op_named (block_on es i) (request_at rs i).op (sym (on_is es rs follows i (block_on es i) may.arrived) ∙ on)
+    same_block = block_same es rs i follows may.arrived real
 
     below : block_on es i < length o.first
     below = let opening = follows_opening o es f.0 in let long = opening.blocks in let small = blocks.on_below o es i (block_on es i) f.0 may.arrived on in omega (arith, long)

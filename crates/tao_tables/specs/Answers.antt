@@ -18,6 +18,11 @@ use Rattle.tao_held.specs.Held.{held, found_in, block_on, value_since, served_an
 abbrev pub AreServed : Opening → List Event → List Request → Type 0
 AreServed o es requests = (j : ℕ) → j < arrived es → is_settled es j ≡ true → (request_at requests j).answer ≡ Some (served_answer o es j)
 
+-- The request of a real arrival is on the arrival's block.
+abbrev pub BlockIsSame : Type 0
+BlockIsSame = (events : List Event) (requests : List Request) (i : ℕ) → Follows events requests → i < arrived (reverse events) → is_real (reverse events) i ≡ true
+    → block_of requests i ≡ block_on (reverse events) i
+
 -- how settling a real arrival with the value that was found changes its block
 pub record SettlesRight (o : Opening) (es now : List Event) (i : ℕ) (x : List ℕ) (requests : List Request) : Type 0 where
   pub served : AreServed o now (settled_from i (block_of requests i) x requests)

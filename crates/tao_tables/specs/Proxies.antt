@@ -1,5 +1,5 @@
 -- A record that a proxy makes stays one under each event. A record's events are oldest first.
-use Rattle.std.specs.Prelude.{◌≡◌, ◌≢◌, ℕ, ◌+◌, ◌*◌, false, List, reverse, All}
+use Rattle.std.specs.Prelude.{◌≡◌, ◌≢◌, ℕ, ◌+◌, ◌*◌, ◌<◌, false, List, [], reverse, slice_index, All}
 use Rattle.tao_base.specs.declared.calls.Op.{Op}
 use Rattle.tao_base.specs.declared.session.Cause.{Cause}
 use Rattle.tao_base.specs.declared.session.Event.{Event}
@@ -7,7 +7,10 @@ use Rattle.tao_base.specs.declared.session.Event.TheVariants.{Arrive, Done, Issu
 use Rattle.tao_base.specs.declared.storage.Bucket.{Bucket}
 use Rattle.tao_base.specs.Session.{Opening}
 use Rattle.tao_model.specs.Events.{dones, issues, has_fault}
-use Rattle.tao_model.specs.Lawful.{MayFollow, OwesNone, FollowsLawfully}
+use Rattle.tao_base.specs.Tree.{leaf_of}
+use Rattle.tao_model.specs.Requests.{leaf_at}
+use Rattle.tao_model.specs.Evictions.{load_contents, load_buckets}
+use Rattle.tao_model.specs.Lawful.{IsOpening, OpensWithLoad, MayFollow, OwesNone, FollowsLawfully}
 use Rattle.tao_model.specs.OneMore.{with_one_more}
 use Rattle.tao_held.specs.Held.{held, IsOfProxy}
 
@@ -42,3 +45,11 @@ pub record OwesMove (o : Opening) (events : List Event) : Type 0 where
 -- this holds for every record
 abbrev pub OwesInTurn : Type 0
 OwesInTurn = (o : Opening) (events : List Event) → OwesMove o events
+
+-- ---- the opening
+
+-- A tree that was loaded by the leaves of an opening's words makes it open with its load, and the load's stash is the opening's.
+abbrev pub OpensByLoad : Type 0
+OpensByLoad = (o : Opening) (leaf : ℕ → ℕ) → IsOpening o → ((b : ℕ) → b < o.shape.n → leaf b ≡ leaf_of o.shape.l (slice_index o.words b))
+    → o.loaded ≡ load_buckets o.shape (load_contents o.shape leaf o.first)
+    → OpensWithLoad o × (load_contents o.shape leaf o.first 0 ≡ load_contents o.shape (λ block. leaf_at o [] block) o.first 0)

@@ -1,5 +1,5 @@
 -- The row of each arrival: the leaf that it fetches and its own word. A record's events are oldest first.
-use Rattle.std.specs.Prelude.{◌≡◌, ℕ, ◌+◌, ◌<◌, true, false, List, [], reverse}
+use Rattle.std.specs.Prelude.{◌≡◌, ℕ, ◌+◌, ◌<◌, true, false, List, [], reverse, slice_index}
 use Rattle.tao_base.specs.declared.calls.Op.{Op}
 use Rattle.tao_base.specs.declared.session.Cause.{Cause}
 use Rattle.tao_base.specs.declared.session.Event.{Event}
@@ -8,9 +8,10 @@ use Rattle.tao_base.specs.declared.storage.Bucket.{Bucket}
 use Rattle.tao_base.specs.Session.{Opening}
 use Rattle.tao_base.specs.Tree.{leaf_of}
 use Rattle.tao_model.specs.Events.{arrived, names, word_of}
-use Rattle.tao_model.specs.Requests.{real_now, fetched_leaf, position}
+use Rattle.tao_model.specs.Requests.{real_now, word_for, fetched_leaf, position}
 use Rattle.tao_model.specs.Lawful.{FollowsLawfully}
 use Rattle.tao_model.specs.OneMore.{with_one_more}
+use Rattle.tao_tables.specs.Positions.{TellsPositions}
 
 -- as many rows as arrivals, each with the leaf that its arrival fetches and the word that came with it
 pub record TellsRows (o : Opening) (es : List Event) (count : ℕ) (leaf word : ℕ → ℕ) : Type 0 where
@@ -52,3 +53,10 @@ pub record ArrivalLeaf (o : Opening) (es now : List Event) (op : Op) (word : ℕ
 abbrev pub ArrivalFetches : Type 0
 ArrivalFetches = (o : Opening) (events : List Event) (client : ℕ) (op : Op) (word : ℕ) → FollowsLawfully o (with_one_more events (Arrive client op word))
     → ArrivalLeaf o (reverse events) (with_one_more events (Arrive client op word)) op word
+
+-- Its leaf by the words of the positions: the leaf of its block's word if it is real, else of its own.
+abbrev pub NewArrivalsLeaf : Type 0
+NewArrivalsLeaf = (o : Opening) (events : List Event) (client : ℕ) (op : Op) (word : ℕ) (words : List ℕ) → TellsPositions o (reverse events) words
+    → FollowsLawfully o (with_one_more events (Arrive client op word))
+    → fetched_leaf o (with_one_more events (Arrive client op word)) (arrived (reverse events))
+    ≡ leaf_of o.shape.l (word_for (λ b. slice_index words b) word (real_now (reverse events) op) op)

@@ -1,6 +1,6 @@
 -- What a proxy keeps of its write-backs: the nodes of the next one, the places of the issued ones, and counts of events.
 -- A record's events are oldest first.
-use Rattle.std.specs.Prelude.{◌≡◌, ℕ, ◌+◌, ◌-◌, ◌*◌, ◌<◌, ◌≤◌, ◌==◌, ◌||◌, true, List, [], ◌∷◌, ◌++◌, map, length, reverse, slice_index, All}
+use Rattle.std.specs.Prelude.{◌≡◌, ℕ, ◌+◌, ◌-◌, ◌*◌, ◌<◌, ◌≤◌, ◌==◌, ◌||◌, true, List, [], ◌∷◌, ◌++◌, map, length, reverse, slice_index, is_some, All}
 use Rattle.std.specs.List.{list_any, range_with_len}
 use Rattle.std.specs.List.Sorted.{IsStrictlyIncreasing}
 use Rattle.tao_base.specs.declared.calls.Op.{Op}
@@ -12,7 +12,7 @@ use Rattle.tao_base.specs.Session.{Opening}
 use Rattle.tao_base.specs.Tree.{node_count, node_at, is_on_path}
 use Rattle.tao_model.specs.Events.{dones, issues, acks, buckets_issued}
 use Rattle.tao_model.specs.Requests.{fetched_leaf}
-use Rattle.tao_model.specs.Residence.{is_resident, newest_version}
+use Rattle.tao_model.specs.Residence.{bucket_of, is_resident, newest_version}
 use Rattle.tao_model.specs.Trace.{nodes_in}
 use Rattle.tao_base.specs.Buckets.{IsInForm}
 use Rattle.tao_model.specs.Lawful.{MayBeIssued, OwesNone, FollowsLawfully, touched_after}
@@ -102,3 +102,13 @@ pub record AreStamped (o : Opening) (recent : List ℕ) (version nonce : ℕ) (b
 abbrev pub IssueMayFollow : Type 0
 IssueMayFollow = (o : Opening) (events : List Event) (recent places : List ℕ) (n m a nonce : ℕ) (buckets : List Bucket) → TellsWrites o events recent places n m a nonce
     → n ≡ (m + 1) * o.shape.k → AreStamped o recent (m + 1) nonce buckets → MayBeIssued o (reverse events) (m + 1) nonce buckets
+
+-- ---- the buckets of a write-back
+
+-- A list of buckets has a bucket of just those nodes that are its buckets' nodes.
+abbrev pub BucketThere : Type 0
+BucketThere = (w : ℕ) (buckets : List Bucket) → is_some (bucket_of w buckets) ≡ list_any (λ v. v == w) (nodes_in buckets)
+
+-- No write-back has more buckets than the tree has nodes, so nonces stay small.
+abbrev pub NoncesAreFew : Type 0
+NoncesAreFew = (o : Opening) (events : List Event) → FollowsLawfully o (reverse events) → buckets_issued (reverse events) ≤ issues (reverse events) * node_count o.shape.l

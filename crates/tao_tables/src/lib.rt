@@ -15,7 +15,7 @@ mod touched;
 mod write_backs;
 mod writes;
 
-pub use answers::served_real;
+pub use answers::{block_is_same, served_real};
 pub use flags::{acked_by_flags, flags_are_told, flags_at_start, released_by_flags};
 pub use nodes::{
     cover_is_bounded, tells_acked, tells_arrive, tells_done, tells_fault, tells_issue, tells_start,
@@ -25,12 +25,13 @@ pub use pools::{
     room_reserve,
 };
 pub use positions::{positions_are_told, positions_at_start};
-pub use proxies::{follows_on, owes_in_turn, proxy_goes_on};
-pub use rows::{arrival_fetches, rows_are_told, rows_at_start};
+pub use proxies::{follows_on, opens_by_load, owes_in_turn, proxy_goes_on};
+pub use rows::{arrival_fetches, new_arrivals_leaf, rows_are_told, rows_at_start};
 pub use served::{released_is_served, served_at_start, served_else};
 pub use tags::{tags_are_told, tags_at_start};
 pub use touched::touch_path;
 pub use write_backs::{
-    issue_may_follow, one_rising_list, recent_is_short, writes_are_told, writes_at_start,
+    bucket_there, issue_may_follow, nonces_are_few, one_rising_list, recent_is_short,
+    writes_are_told, writes_at_start,
 };
 pub use writes::{issued_is, newest_write_is};

@@ -1,5 +1,5 @@
 //! Laws: a record that a proxy makes.
-ghost use Rattle.tao_tables.specs.Proxies.{FollowsOn, OwesInTurn, ProxyGoesOn};
+ghost use Rattle.tao_tables.specs.Proxies.{FollowsOn, OpensByLoad, OwesInTurn, ProxyGoesOn};
 
 /// It stays one under each lawful event, if a write-back has what is held.
 pub fn proxy_goes_on()
@@ -14,4 +14,9 @@ pub fn follows_on()
 /// Only a Done that fills a period owes a write-back.
 pub fn owes_in_turn()
     ensures { OwesInTurn }
+{}
+
+/// A tree that was loaded by the opening's words makes it open with its load.
+pub fn opens_by_load()
+    ensures { OpensByLoad }
 {}

@@ -1,5 +1,5 @@
 //! Laws: the row of each arrival.
-ghost use Rattle.tao_tables.specs.Rows.{RowsAreTold, RowsAtStart, ArrivalFetches};
+ghost use Rattle.tao_tables.specs.Rows.{RowsAreTold, RowsAtStart, ArrivalFetches, NewArrivalsLeaf};
 
 /// An arrival adds its row.
 pub fn rows_are_told()
@@ -14,4 +14,9 @@ pub fn rows_at_start()
 /// A real arrival fetches the leaf of its block, any other one that of its own word.
 pub fn arrival_fetches()
     ensures { ArrivalFetches }
+{}
+
+/// By the words of the positions: the leaf of its block's word, or of its own.
+pub fn new_arrivals_leaf()
+    ensures { NewArrivalsLeaf }
 {}

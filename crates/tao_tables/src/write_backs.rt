@@ -1,5 +1,5 @@
 //! Laws: what is kept of the write-backs.
-ghost use Rattle.tao_tables.specs.WriteBacks.{WritesAreTold, WritesAtStart, OneRisingList, RecentIsShort, IssueMayFollow};
+ghost use Rattle.tao_tables.specs.WriteBacks.{WritesAreTold, WritesAtStart, OneRisingList, RecentIsShort, IssueMayFollow, BucketThere, NoncesAreFew};
 
 /// A Done adds its path, a write-back starts the next list.
 pub fn writes_are_told()
@@ -24,4 +24,14 @@ pub fn recent_is_short()
 /// The recent nodes, stamped, may be written if a period is full.
 pub fn issue_may_follow()
     ensures { IssueMayFollow }
+{}
+
+/// A list of buckets has a bucket of just those nodes that are its buckets' nodes.
+pub fn bucket_there()
+    ensures { BucketThere }
+{}
+
+/// No write-back has more buckets than the tree has nodes.
+pub fn nonces_are_few()
+    ensures { NoncesAreFew }
 {}

@@ -14,6 +14,6 @@ invariant_of-result c =
     let wide = subst (λ n. n * (c.args.p.now.l + 1) ≤ vec_capacity c.in_ok-recent.recent) c.k.ensures.value
     (subst (λ m. c.k.result * (m + 1) ≤ vec_capacity c.in_ok-recent.recent) c.l.ensures.value c.in_ok-recent.ensures.capacity) in
     opened_from {words = c.args.words} {blocks = c.args.blocks} {loaded = c.in_ok-loaded.loaded} {stash = c.in_ok-loaded.holdings.stash} c.k.ensures.shape c.requires.words c.requires.blocks c.requires.values
-    load c.in_ok-loaded.ensures.entries c.in_ok-written.ensures wide
+    load c.in_ok-written.ensures wide
     c.in_ok-session.ensures c.in_ok-requests.ensures c.in_ok-sequence.ensures c.in_ok-acknowledged.ensures c.new-4.ensures.items c.new-4.ensures.len c.in_ok-recent.ensures.items c.new-5.ensures.items
     (ap (λ n. n + 1) (c.from.ensures ∙ c.nodes.ensures.value)) st c.new-6.ensures.items c.new-6.ensures.len
