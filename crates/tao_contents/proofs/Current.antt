@@ -1,6 +1,6 @@
 -- How the proxy's steps change the current contents, node by node.
 use Rattle.std.proofs.Common.{◌≡◌, ℕ, Bool, true, false, not, ◌&&◌, ◌||◌, cond, List, [], ◌∷◌, is_some, refl, sym, ap, ◌∙◌, inl, inr, ◌⊎◌, nat_eq}
-use Rattle.std.proofs.lemmas.Bool.{eq-eqb, eqb-true, cases_Bool, true≢false}
+use Rattle.std.proofs.lemmas.Bool.{eq-eqb, eqb-true, cases_Bool, or_right, true≢false}
 use Rattle.tao_base.specs.declared.storage.Entry.{Entry}
 use Rattle.tao_base.specs.Limits.{Shape}
 use Rattle.tao_base.specs.Tree.{node_count, path, is_on_path}
@@ -29,12 +29,8 @@ current_taken_in l at resident taken own newest honest w =
     take_in_cases (nat_eq w 0) (resident w) (is_on_path l at w) (own w) (taken w) (newest w)
     (λ stash on. true≢false (sym on ∙ ap (is_on_path l at) (eqb-true w 0 stash) ∙ stash_is_off l at)) (honest w)
 
-or_true : (x y : Bool) → y ≡ true → (x || y) ≡ true
-or_true true y e = refl
-or_true false y e = e
-
 pub held_path : (l at : ℕ) (resident : ℕ → Bool) (w : ℕ) → is_on_path l at w ≡ true → with_path l at resident w ≡ true
-held_path l at resident w on = or_true (resident w) (is_on_path l at w) on
+held_path l at resident w on = or_right (resident w) (is_on_path l at w) on
 
 -- ---- if the path is held, the stash and the path are the proxy's own
 
@@ -47,7 +43,7 @@ current_inside l at resident own newest holds w inside = ap (λ t. cond t (own w
   where
     held : (w ≡ 0) ⊎ (is_on_path l at w ≡ true) → (nat_eq w 0 || resident w) ≡ true
     held (inl stash) = ap (λ t. t || resident w) (eq-eqb w 0 stash)
-    held (inr on) = or_true (nat_eq w 0) (resident w) (holds w on)
+    held (inr on) = or_right (nat_eq w 0) (resident w) (holds w on)
 
 -- ---- put
 

@@ -1,8 +1,8 @@
 -- First copies on lists of nodes, and the nodes of a path.
-use Rattle.std.proofs.Common.{◌≡◌, ℕ, zero, suc, ◌+◌, ◌<◌, ◌≤◌, Bool, true, false, ◌||◌, List, [], ◌∷◌, map, Option, Some, None, refl, sym, ap, ◌∙◌, arith, inl, inr, ◌⊎◌, nat_eq}
+use Rattle.std.proofs.Common.{◌≡◌, ℕ, zero, suc, ◌+◌, ◌<◌, ◌≤◌, true, false, List, [], ◌∷◌, map, Option, Some, None, refl, sym, ap, ◌∙◌, arith, inl, inr, ◌⊎◌, nat_eq}
 use Rattle.std.specs.List.{range_with_len}
 use Rattle.std.specs.Option.{option_or}
-use Rattle.std.proofs.lemmas.Bool.{ne_eqb, eq-eqb, eqb-true, cases_eq, or_cases, or_parts, true≢false, false≢true}
+use Rattle.std.proofs.lemmas.Bool.{ne_eqb, eq-eqb, eqb-true, cases_eq, or_cases, or_parts, or_from, or_right, true≢false, false≢true}
 use Rattle.std.proofs.lemmas.Option.{none-some}
 use Rattle.std.proofs.lemmas.Nat.{pow_pos}
 use Rattle.tao_base.specs.declared.storage.Entry.{Entry}
@@ -10,14 +10,6 @@ use Rattle.tao_base.specs.Tree.{node_at, path, is_on_path}
 use Rattle.tao_base.proofs.TreeLemmas.{node_low}
 use Rattle.tao_model.specs.Placement.{look, first_copy}
 use Rattle.tao_model.proofs.FallingPaths.{has, on_path_has}
-
-pub or_later : (x y : Bool) → y ≡ true → (x || y) ≡ true
-or_later true y e = refl
-or_later false y e = e
-
-pub or_neither : (x y : Bool) → x ≡ false → y ≡ false → (x || y) ≡ false
-or_neither true y e f = e
-or_neither false y e f = f
 
 pub not_stash : (w : ℕ) → nat_eq w 0 ≡ false → 0 < w
 not_stash w off = either (cases_eq w 0)
@@ -33,7 +25,7 @@ none_is_stash l at zero a h = refl
 none_is_stash l at (suc n) a h =
     let low = node_low l at a (omega arith) in
     let some = pow_pos a in
-    or_neither (nat_eq (node_at l at a) 0) (has 0 (map (node_at l at) (range_with_len (a + 1) n))) (ne_eqb (node_at l at a) 0 (λ same. omega arith))
+    or_from (nat_eq (node_at l at a) 0) (has 0 (map (node_at l at) (range_with_len (a + 1) n))) (ne_eqb (node_at l at a) 0 (λ same. omega arith))
     (none_is_stash l at n (a + 1) (omega arith))
 
 -- the stash is on no path
@@ -52,7 +44,7 @@ pub inside_stash : (l at w : ℕ) → w ≡ 0 → has w (0 ∷ path l at) ≡ tr
 inside_stash l at w stash = rw (eq-eqb 0 w (sym stash)) refl
 
 pub inside_path : (l at w : ℕ) → is_on_path l at w ≡ true → has w (0 ∷ path l at) ≡ true
-inside_path l at w on = or_later (nat_eq 0 w) (has w (path l at)) (sym (on_path_has l at w) ∙ on)
+inside_path l at w on = or_right (nat_eq 0 w) (has w (path l at)) (sym (on_path_has l at w) ∙ on)
 
 pub inside_either : (l at w : ℕ) → (w ≡ 0) ⊎ (is_on_path l at w ≡ true) → has w (0 ∷ path l at) ≡ true
 inside_either l at w (inl stash) = inside_stash l at w stash
@@ -75,7 +67,7 @@ outside_is l at w h =
     either (inr node) off = omega arith
 
 pub outside : (l at w : ℕ) → 0 < w → is_on_path l at w ≡ false → has w (0 ∷ path l at) ≡ false
-outside l at w low off = or_neither (nat_eq 0 w) (has w (path l at)) (ne_eqb 0 w (λ same. omega arith)) (sym (on_path_has l at w) ∙ off)
+outside l at w low off = or_from (nat_eq 0 w) (has w (path l at)) (ne_eqb 0 w (λ same. omega arith)) (sym (on_path_has l at w) ∙ off)
 
 -- ---- first copies
 
@@ -96,7 +88,7 @@ first_one b node x held (w ∷ ws) on there alone = either (cases_eq w node) (λ
 -- if no node of the list has a copy, there is no first copy
 pub first_none : (b : ℕ) (held : ℕ → List Entry) (nodes : List ℕ) → ((w : ℕ) → has w nodes ≡ true → look b (held w) ≡ None) → first_copy nodes held b ≡ None
 first_none b held [] none = refl
-first_none b held (w ∷ ws) none = rw (none w (rw (eq-eqb w w refl) refl)) (first_none b held ws (λ v on. none v (or_later (nat_eq w v) (has v ws) on)))
+first_none b held (w ∷ ws) none = rw (none w (rw (eq-eqb w w refl) refl)) (first_none b held ws (λ v on. none v (or_right (nat_eq w v) (has v ws) on)))
 
 -- and conversely
 pub none_first : (b : ℕ) (held : ℕ → List Entry) (nodes : List ℕ) → first_copy nodes held b ≡ None → (w : ℕ) → has w nodes ≡ true → look b (held w) ≡ None
@@ -118,4 +110,4 @@ pub first_alike : (b : ℕ) (held other : ℕ → List Entry) (nodes : List ℕ)
 first_alike b held other [] same = refl
 first_alike b held other (w ∷ ws) same =
     ap (λ o. option_or o (first_copy ws held b)) (same w (rw (eq-eqb w w refl) refl))
-    ∙ ap (λ o. option_or (look b (other w)) o) (first_alike b held other ws (λ v on. same v (or_later (nat_eq w v) (has v ws) on)))
+    ∙ ap (λ o. option_or (look b (other w)) o) (first_alike b held other ws (λ v on. same v (or_right (nat_eq w v) (has v ws) on)))

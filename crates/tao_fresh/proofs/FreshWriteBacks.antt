@@ -1,5 +1,6 @@
 -- What is written is fresh. The events `es` are newest first.
 use Rattle.std.proofs.Common.{◌≡◌, ℕ, ◌+◌, ◌*◌, ◌<◌, Bool, true, false, List, [], ◌∷◌, reverse, length, All, sym, ap, ◌∙◌, subst, arith, inl, inr, ◌⊎◌, mod-lt}
+use Rattle.std.proofs.lemmas.Bool.{or_right}
 use Rattle.std.proofs.lemmas.Nat.{pow_pos}
 use Rattle.tao_base.specs.declared.session.Event.{Event}
 use Rattle.tao_base.specs.declared.session.Event.TheVariants.{Arrive, Done, Issue, Acked, Fault}
@@ -21,7 +22,6 @@ use Rattle.tao_laws.specs.SettledValues.{settled_value}
 use Rattle.tao_laws.proofs.RecentNodes.{leaf_low}
 use Rattle.tao_contents.specs.CleanLaws.{AreAllClean}
 use Rattle.tao_contents.specs.WriteBackLaws.{FreshWrites, IsWrittenOnce, IsUnwritten}
-use Rattle.tao_contents.proofs.Looks.{or_later}
 use Rattle.tao_contents.proofs.Opened.{load_writes_fresh}
 use Rattle.tao_contents.proofs.WrittenBack.{write_back_is_fresh}
 use Rattle.tao_held.specs.Steps.{take_in, put}
@@ -79,7 +79,7 @@ fresh_write_back o (Done i taken ∷ es) version nonce buckets f may clean fresh
     (value_since es (block_on es i) i (found_in o es (λ w. held o es w) i taken)) in
     write_back_is_fresh o.shape (fetched_leaf o es i) (λ b. position o (Done i taken ∷ es) b) (λ b. settled_value o (Done i taken ∷ es) b) (λ w. is_resident o (Done i taken ∷ es) w)
     evicts.0 (λ w. held o (Done i taken ∷ es) w) (λ w. newest_entries o (Issue version nonce buckets ∷ Done i taken ∷ es) w) (leaf_low o es i)
-    (λ w on. or_later (is_resident o es w) (fetches o es i w) on) evicts.1 clean fresh
+    (λ w on. or_right (is_resident o es w) (fetches o es i w) on) evicts.1 clean fresh
 fresh_write_back o (Issue v n xs ∷ es) version nonce buckets f may clean fresh =
     let due = due_now o (Issue v n xs ∷ es) version nonce buckets may in
     let before = due_now o es v n xs f.2 in

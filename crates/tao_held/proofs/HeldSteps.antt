@@ -1,6 +1,6 @@
 -- How one more event changes what is held. The events `es` are newest first.
-use Rattle.std.proofs.Common.{◌≡◌, ℕ, ◌<◌, Bool, true, false, not, ◌&&◌, ◌||◌, cond, List, [], ◌∷◌, reverse, refl, sym, ap, ◌∙◌, arith, nat_eq}
-use Rattle.std.proofs.lemmas.Bool.{ne_eqb, or_parts}
+use Rattle.std.proofs.Common.{◌≡◌, ℕ, ◌<◌, Bool, true, false, not, ◌&&◌, cond, List, [], ◌∷◌, reverse, refl, sym, ap, ◌∙◌, arith, nat_eq}
+use Rattle.std.proofs.lemmas.Bool.{ne_eqb, or_parts, or_from}
 use Rattle.tao_base.specs.declared.session.Event.{Event}
 use Rattle.tao_base.specs.declared.session.Event.TheVariants.{Arrive, Done, Issue, Acked, Fault}
 use Rattle.tao_base.specs.declared.storage.Entry.{Entry}
@@ -28,13 +28,9 @@ held_stays o events = record {
 }
 
 -- a node off the path keeps its entries
-either_off : (x y : Bool) → x ≡ false → y ≡ false → (x || y) ≡ false
-either_off true y e f = e
-either_off false y e f = f
-
 pub evict_off : (s : Shape) (at : ℕ) (leaf : ℕ → ℕ) (contents : ℕ → List Entry) (w : ℕ) → 0 < w → is_on_path s.l at w ≡ false → evict s at leaf contents w ≡ contents w
 evict_off s at leaf contents w low off = (eviction_is_placed s (path s.l at) leaf contents).others w
-    (either_off (nat_eq 0 w) (has w (path s.l at)) (ne_eqb 0 w (λ same. omega arith)) (sym (on_path_has s.l at w) ∙ off))
+    (or_from (nat_eq 0 w) (has w (path s.l at)) (ne_eqb 0 w (λ same. omega arith)) (sym (on_path_has s.l at w) ∙ off))
 
 pub take_in_off : (l at : ℕ) (resident : ℕ → Bool) (taken own : ℕ → List Entry) (w : ℕ) → is_on_path l at w ≡ false → take_in l at resident taken own w ≡ own w
 take_in_off l at resident taken own w off = ap (λ p. cond (p && not (resident w)) (taken w) (own w)) off

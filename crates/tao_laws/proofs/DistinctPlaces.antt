@@ -10,7 +10,7 @@ use Rattle.tao_model.specs.Events.{arrived, names}
 use Rattle.tao_model.specs.Requests.{real_now, next_word, word_for, word_used}
 use Rattle.tao_model.specs.Lawful.{FollowsLawfully, IsInRange}
 use Rattle.tao_model.proofs.Stays.{used_stays}
-use Rattle.tao_model.proofs.OneMoreEvent.{word_for_fake, word_for_block}
+use Rattle.tao_model.proofs.OneMoreEvent.{names_below, word_for_fake, word_for_block}
 use Rattle.tao_model.proofs.Places.{word_for_below}
 use Rattle.tao_laws.specs.TapeWords.{AreInRange, LawfulIsInRange, AreDistinct, DistinctWords, WordsAreKnown}
 
@@ -113,11 +113,6 @@ names_one : (a b : ℕ) (op : Op) → names a op ≡ true → (a ≡ b → ⊥) 
 names_one a b (Read id) h other = ne_eqb id b (λ same. other (sym (eqb-true id a h) ∙ same))
 names_one a b (Write id value) h other = ne_eqb id b (λ same. other (sym (eqb-true id a h) ∙ same))
 names_one a b Pad h other = refl
-
-pub names_below : (o : Opening) (block : ℕ) (op : Op) → names block op ≡ true → IsInRange o.shape op → block < o.shape.n
-names_below o block (Read id) h r = let same : id ≡ block = eqb-true id block h in omega arith
-names_below o block (Write id value) h r = let same : id ≡ block = eqb-true id block h in let low : id < o.shape.n = r.0 in omega arith
-names_below o block Pad h r = absurd (true≢false (sym h))
 
 used_newest : (o : Opening) (es : List Event) (client : ℕ) (op : Op) (word : ℕ) (t : Bool) → real_now es op ≡ t
     → word_used o (Arrive client op word ∷ es) (arrived es) ≡ word_for (next_word o es) (o.shape.n + arrived es) t op

@@ -19,6 +19,7 @@ use Rattle.tao_model.proofs.FallingPaths.{has}
 use Rattle.tao_laws.proofs.Listings.{has_range}
 use Rattle.tao_laws.proofs.RecentNodes.{bucket_in}
 use Rattle.tao_tables.specs.Writes.{IssuedIs, IsNewestWrite, NewestWrite}
+use Rattle.tao_tables.proofs.RisingLists.{or_none}
 
 -- ---- the nodes of a version
 
@@ -49,10 +50,6 @@ issued_at o [] earlier v nonce buckets w f =
     ap (λ t. (t && is_some (bucket_of w buckets)) || is_issued earlier v w) (eq-eqb v v refl)
     ∙ ap (λ t. is_some (bucket_of w buckets) || t) (false_from_ne_true (is_issued earlier v w) (λ on. let known = issued_known o earlier v w f.0 on in let next = f.2.next in omega arith))
     ∙ or_none (is_some (bucket_of w buckets))
-  where
-    or_none : (t : Bool) → (t || false) ≡ t
-    or_none true = refl
-    or_none false = refl
 issued_at o (Arrive client op word ∷ later) earlier v nonce buckets w f = issued_at o later earlier v nonce buckets w f.0
 issued_at o (Done arrival taken ∷ later) earlier v nonce buckets w f = issued_at o later earlier v nonce buckets w f.0
 issued_at o (Issue version start others ∷ later) earlier v nonce buckets w f =

@@ -8,24 +8,17 @@ use Rattle.tao_base.specs.declared.session.Event.TheVariants.{Arrive, Done, Issu
 use Rattle.tao_base.specs.Session.{Opening, History}
 use Rattle.tao_model.specs.Replies.{array_now}
 use Rattle.tao_model.specs.Transcript.{event_lines}
-use Rattle.tao_model.specs.Lawful.{FollowsLawfully, IsOpening}
+use Rattle.tao_model.specs.Lawful.{FollowsLawfully}
 use Rattle.tao_model.specs.OneMore.{AfterArrive}
 use Rattle.tao_model.proofs.OneMoreEvent.{one_more_arrive}
+use Rattle.tao_model.proofs.LawfulToWhole.{earlier_follows}
 use Rattle.tao_model.proofs.Stays.{newest_first}
 use Rattle.tao_model.proofs.PlainArrays.{length_step}
 use Rattle.tao_trace.specs.Printing.{events_before, lines_at, first_lines}
 use Rattle.tao_trace.specs.Tables.{IsNext}
 
-pub follows_before : (o : Opening) (later es : List Event) → FollowsLawfully o (later ++ es) → FollowsLawfully o es
-follows_before o [] es f = f
-follows_before o (e ∷ later) es f = follows_before o later es f.0
-
-pub opening_of : (o : Opening) (es : List Event) → FollowsLawfully o es → IsOpening o
-opening_of o [] f = f
-opening_of o (e ∷ es) f = opening_of o es f.0
-
 pub front_follows : (h : History) (place : ℕ) → FollowsLawfully h.opening (reverse h.events) → FollowsLawfully h.opening (events_before h place)
-front_follows h place f = follows_before h.opening (reverse (drop place h.events)) (events_before h place)
+front_follows h place f = earlier_follows h.opening (reverse (drop place h.events)) (events_before h place)
     (subst (FollowsLawfully h.opening) (ap reverse (sym (take-append-drop place h.events)) ∙ reverse-append (take place h.events) (drop place h.events)) f)
 
 pub lines_are : (h : History) (place : ℕ) (d e : Event) → place < length h.events → get_or h.events place d ≡ e → lines_at h place ≡ event_lines h.opening (events_before h place) e

@@ -9,12 +9,13 @@ use Rattle.tao_model.specs.Requests.{real_now, next_word}
 use Rattle.tao_model.specs.LookBacks.{is_real_on}
 use Rattle.tao_model.specs.Lawful.{IsOpening}
 use Rattle.tao_sequence.specs.Release.{is_done_in}
+use Rattle.tao_model.proofs.LawfulToWhole.{follows_opening}
 use Rattle.tao_trace.specs.Printing.{PrinterState, events_before}
 use Rattle.tao_trace.specs.Tables.{IsTold, IsSlot, AreTables, Fit}
 use Rattle.tao_trace.specs.declared.tables.Told.{Told}
 use Rattle.tao_trace.specs.declared.tables.Slot.{Slot}
 use Rattle.tao_trace.proofs.NextReal.{none_on, some_on}
-use Rattle.tao_trace.proofs.Following.{opening_of, front_follows}
+use Rattle.tao_trace.proofs.Following.{front_follows}
 
 -- the invariant, in words of the model's value
 pub fit_of : (s t : PrinterState) (told : List Told) (slots : List Slot) (flags : List Bool) → s ≡ t → Fit s.history s.place told slots flags → Fit t.history t.place told slots flags
@@ -29,7 +30,7 @@ pub slot_at : (o : Opening) (es : List Event) (told : List Told) (slots : List S
 slot_at o es told slots flags t block slot h at = subst (IsSlot o es block) (sym at) (t.all block slot (let len = t.blocks in omega arith))
 
 pub opens : (h : History) (place : ℕ) (told : List Told) (slots : List Slot) (flags : List Bool) → Fit h place told slots flags → IsOpening h.opening
-opens h place told slots flags f = opening_of h.opening (events_before h place) (front_follows h place f.follows)
+opens h place told slots flags f = follows_opening h.opening (events_before h place) (front_follows h place f.follows)
 
 -- the last real arrival on a block, as its slot has it
 last_at : (h : History) (place : ℕ) (told : List Told) (slots : List Slot) (flags : List Bool) → Fit h place told slots flags

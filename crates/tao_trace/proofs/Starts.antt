@@ -7,10 +7,10 @@ use Rattle.tao_base.specs.Session.{History}
 use Rattle.tao_model.specs.Greatest.{IsLast}
 use Rattle.tao_model.specs.LookBacks.{is_real_on}
 use Rattle.tao_model.specs.Lawful.{FollowsLawfully}
+use Rattle.tao_model.proofs.LawfulToWhole.{follows_opening}
 use Rattle.tao_trace.specs.Tables.{Fit, AreFirst, AreFlags}
 use Rattle.tao_trace.specs.declared.tables.Told.{Told}
 use Rattle.tao_trace.specs.declared.tables.Slot.{Slot}
-use Rattle.tao_trace.proofs.Following.{opening_of}
 use Rattle.tao_trace.proofs.Released.{flags_first}
 
 pub fit_first : (h : History) (told : List Told) (slots : List Slot) (flags : List Bool) → FollowsLawfully h.opening (reverse h.events) → told ≡ [] → AreFirst h.opening.first slots
@@ -21,7 +21,7 @@ fit_first h told slots flags f none first down = record {
   tables = record {
     arrivals = ap length none;
     each = λ i d h. let len : length told ≡ 0 = ap length none in absurd (omega arith);
-    blocks = first.blocks ∙ (opening_of h.opening (reverse h.events) f).blocks;
+    blocks = first.blocks ∙ (follows_opening h.opening (reverse h.events) f).blocks;
     all = λ block d small. record {
       last = subst (IsLast (is_real_on [] block) 0) (sym (All-get_or (λ (slot : Slot). slot.last ≡ None) slots block d small first.last)) (λ i below. absurd (omega arith));
       value = sym (get_or-map (λ (slot : Slot). slot.value.now) slots block d [] small) ∙ ap (λ l. get_or l block []) first.values;

@@ -18,10 +18,11 @@ use Rattle.tao_model.specs.Replies.{array_now, plain_reply}
 use Rattle.tao_model.specs.Lawful.{FollowsLawfully, IsOpening}
 use Rattle.tao_model.proofs.Stays.{pad_stays, client_stays, word_stays, reply_stays}
 use Rattle.tao_model.proofs.LastReal.{last_arrive}
+use Rattle.tao_model.proofs.LawfulToWhole.{follows_opening}
 use Rattle.tao_trace.specs.Tables.{reply_of, reply_for, value_after, IsTold, IsSlot, AreTables, AreMoved, IsMoved}
 use Rattle.tao_trace.specs.declared.tables.Told.{Told}
 use Rattle.tao_trace.specs.declared.tables.Slot.{Slot}
-use Rattle.tao_trace.proofs.Following.{opening_of, array_len}
+use Rattle.tao_trace.proofs.Following.{array_len}
 use Rattle.tao_trace.proofs.Released.{flags_done}
 
 -- ---- an arrival
@@ -98,7 +99,7 @@ tables_arrive o es client op word told slots new flags row f t is_row len moved 
 }
   where
     opens : IsOpening o
-    opens = opening_of o es f.0
+    opens = follows_opening o es f.0
 
     either : (i : ℕ) (d : Told) → (i < length told) ⊎ (length told ≤ i) → i < length (told ++ row ∷ []) → IsTold o (Arrive client op word ∷ es) i (get_or (told ++ row ∷ []) i d)
     either i d (inl older) h = subst (IsTold o (Arrive client op word ∷ es) i) (sym (get_or_append_left told (row ∷ []) d i older))
