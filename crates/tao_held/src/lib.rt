@@ -5,6 +5,7 @@
 mod alike;
 mod answering;
 mod holding;
+mod honest;
 mod worked;
 mod worked_proxies;
 
@@ -14,6 +15,7 @@ pub use answering::{
     held_have_length, since_is_fold,
 };
 pub use holding::{away_is_empty, held_stays};
+pub use honest::{unaltered_both, unaltered_earlier};
 pub use worked::{
     copies_that_count, one_read_holds, two_fetches_hold, worked_are_of_proxy, writes_are_answered,
 };
