@@ -113,16 +113,18 @@ take_long n l at resident taken own fetched long w = either (is_on_path l at w &
     either true = fetched w
     either false = long w
 
-taken_long : (s : Shape) (taken : List Bucket) → All (IsInForm s) taken → HaveLength s.b (entries_at taken)
-taken_long s [] forms w = All-nil (λ entry. length entry.value ≡ s.b)
-taken_long s (x ∷ taken) forms w = either (nat_eq x.node w) (taken_long s taken (All-tail (IsInForm s) x taken forms) w)
+-- what holds of each bucket's entries, and of none, holds of a node's
+pub entries_are : (P : List Entry → Type 0) (buckets : List Bucket) (w : ℕ) → P [] → All (λ bucket. P bucket.entries) buckets → P (entries_at buckets w)
+entries_are P [] w none all = none
+entries_are P (x ∷ buckets) w none all = either (nat_eq x.node w) (entries_are P buckets w none (All-tail (λ bucket. P bucket.entries) x buckets all))
   where
-    form : IsInForm s x
-    form = All-head (IsInForm s) x taken forms
-
-    either : (t : Bool) → AreLong s.b (entries_at taken w) → AreLong s.b (cond t x.entries (entries_at taken w))
-    either true ih = form.entries.values
+    either : (t : Bool) → P (entries_at buckets w) → P (cond t x.entries (entries_at buckets w))
+    either true ih = All-head (λ bucket. P bucket.entries) x buckets all
     either false ih = ih
+
+taken_long : (s : Shape) (taken : List Bucket) → All (IsInForm s) taken → HaveLength s.b (entries_at taken)
+taken_long s taken forms w = entries_are (AreLong s.b) taken w (All-nil (λ entry. length entry.value ≡ s.b))
+    (All-weaker (IsInForm s) (λ bucket. AreLong s.b bucket.entries) (λ bucket form. form.entries.values) taken forms)
 
 fetch_long : (real : Bool) (s : Shape) (at : ℕ) (leaf : ℕ → ℕ) (resident : ℕ → Bool) (taken own : ℕ → List Entry) (block : ℕ) (value : List ℕ)
     → HaveLength s.b taken → HaveLength s.b own → IsLong s.b value → HaveLength s.b (after_fetch real s at leaf resident taken own block value)

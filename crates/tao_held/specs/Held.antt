@@ -39,7 +39,7 @@ op_value block (Read id) v = v
 op_value block (Write id value) v = if id == block then value else v
 op_value block Pad v = v
 
--- a block's value after the arrivals from number i on
+-- a block's value after the arrivals from number i on, if it was v before
 abbrev pub value_since : List Event → ℕ → ℕ → List ℕ → List ℕ
 value_since [] block i v = v
 value_since (Arrive client op word ∷ es) block i v = if nat_lt (arrived es) i then v else op_value block op (value_since es block i v)
@@ -48,7 +48,7 @@ value_since (Issue version nonce buckets ∷ es) block i v = value_since es bloc
 value_since (Acked version ∷ es) block i v = value_since es block i v
 value_since (Fault cause ∷ es) block i v = value_since es block i v
 
--- a block's value after the arrivals from number i up to, but not including, number j
+-- a block's value after the arrivals from number i up to, but not including, number j, if it was v before
 abbrev pub value_between : List Event → ℕ → ℕ → ℕ → List ℕ → List ℕ
 value_between [] block i j v = v
 value_between (Arrive client op word ∷ es) block i j v =
@@ -86,7 +86,7 @@ held o (Fault cause ∷ es) w = held o es w
 
 -- ---- what is found and answered
 
--- what the look-up found of an arrival's block at its Done
+-- What a look-up finds of an arrival's block at its Done, and no bytes before. Only a real arrival's is ever used: a fake one looks nothing up.
 unfoldable pub found_value : Opening → List Event → ℕ → List ℕ
 found_value o [] i = []
 found_value o (Arrive client op word ∷ es) i = found_value o es i
@@ -95,7 +95,8 @@ found_value o (Issue version nonce buckets ∷ es) i = found_value o es i
 found_value o (Acked version ∷ es) i = found_value o es i
 found_value o (Fault cause ∷ es) i = found_value o es i
 
--- what a settled arrival is answered: the value its settler's fetch found, after the operations between; a pad gets no bytes
+-- What a settled arrival is answered: the value that its settler's fetch found, after the operations from the settler's on and before its own.
+-- A pad gets no bytes.
 unfoldable pub served_answer : Opening → List Event → ℕ → List ℕ
 served_answer o es j = if is_pad es j then [] else value_between es (block_on es j) (settler es j) j (found_value o es (settler es j))
 

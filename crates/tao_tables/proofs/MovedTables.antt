@@ -2,7 +2,7 @@
 use Rattle.std.proofs.Common.{◌≡◌, ℕ, suc, ◌+◌, ◌-◌, ◌*◌, ◌<◌, Bool, true, false, not, ◌&&◌, ◌||◌, cond, List, [], ◌∷◌, reverse, All, is_some, refl, sym, ap, ◌∙◌, arith, nat_eq, nat_lt}
 use Rattle.std.proofs.Math.Path.{fun_ext}
 use Rattle.std.proofs.lemmas.Bool.{eqb-true, and_from}
-use Rattle.std.proofs.lemmas.List.Elements.{All-nil, All-head, All-tail}
+use Rattle.std.proofs.lemmas.List.Elements.{All-nil, All-weaker}
 use Rattle.tao_base.specs.declared.calls.Op.{Op}
 use Rattle.tao_base.specs.declared.session.Event.{Event}
 use Rattle.tao_base.specs.declared.session.Event.TheVariants.{Arrive, Done, Issue, Acked, Fault}
@@ -22,6 +22,7 @@ use Rattle.tao_model.proofs.Places.{done_arrived, leaf_stays_later}
 use Rattle.tao_held.specs.Steps.{take_in, found_copy, value_or_zeros}
 use Rattle.tao_held.specs.Held.{held, after_fetch, found_in, block_on, value_since}
 use Rattle.tao_held.specs.HeldLaws.{AreIdsBelow}
+use Rattle.tao_held.proofs.WholeBlocks.{entries_are}
 use Rattle.tao_held.proofs.Blocks.{real_on, on_below}
 use Rattle.tao_held.proofs.AlikeContents.{take_in_same, fetched_alike}
 use Rattle.tao_laws.specs.Counted.{count_below}
@@ -55,15 +56,8 @@ tells_arrive o events client op word r c n n' t v tells = rw (newest_first event
 -- ---- a Done
 
 taken_below : (s : Shape) (taken : List Bucket) → All (IsInForm s) taken → AreIdsBelow s.n (entries_at taken)
-taken_below s [] forms w = All-nil (λ entry. entry.id < s.n)
-taken_below s (x ∷ taken) forms w = either (nat_eq x.node w) (taken_below s taken (All-tail (IsInForm s) x taken forms) w)
-  where
-    head : IsInForm s x
-    head = All-head (IsInForm s) x taken forms
-
-    either : (b : Bool) → All (λ entry. entry.id < s.n) (entries_at taken w) → All (λ entry. entry.id < s.n) (cond b x.entries (entries_at taken w))
-    either true ih = head.entries.ids
-    either false ih = ih
+taken_below s taken forms w = entries_are (λ entries. All (λ entry. entry.id < s.n) entries) taken w (All-nil (λ entry. entry.id < s.n))
+    (All-weaker (IsInForm s) (λ bucket. All (λ entry. entry.id < s.n) bucket.entries) (λ bucket form. form.entries.ids) taken forms)
 
 -- only a real fetch has a value
 value_same : (real : Bool) (s : Shape) (at : ℕ) (leaf : ℕ → ℕ) (resident : ℕ → Bool) (taken own : ℕ → List Entry) (block : ℕ) (x y : List ℕ) (w : ℕ) → (real ≡ true → x ≡ y)
