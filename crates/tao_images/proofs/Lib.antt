@@ -1,3 +1,4 @@
+pub mod AnswerLemmas
 pub mod Comparisons
 pub mod KnownLemmas
 pub mod OrderLemmas

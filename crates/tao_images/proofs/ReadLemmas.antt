@@ -5,7 +5,7 @@ use Rattle.std.specs.Option.{option_or, option_map}
 use Rattle.std.proofs.lemmas.Bool.{eqb-true}
 use Rattle.std.proofs.lemmas.List.Elements.{All-nil, All-cons, All-weaker}
 use Rattle.std.proofs.lemmas.Option.{same_Some}
-use Rattle.tao_base.specs.Limits.{Shape, IsShape, slots_len, bucket_len}
+use Rattle.tao_base.specs.Limits.{Shape, slots_len, bucket_len}
 use Rattle.tao_base.specs.Tree.{node_at}
 use Rattle.tao_base.specs.declared.storage.Bucket.{Bucket}
 use Rattle.tao_base.specs.declared.storage.BucketFault.{BucketFault}
@@ -22,7 +22,7 @@ use Rattle.tao_model.specs.Trace.{nodes_in}
 use Rattle.tao_images.specs.declared.nodes.Refused.{Refused}
 use Rattle.tao_images.specs.declared.nodes.Refused.TheVariants.{Damaged, Stale}
 use Rattle.tao_images.specs.Nodes.{Holds, node_refusal}
-use Rattle.tao_images.specs.Paths.{piece, refusal_at, path_refusal, read_at, buckets_read, IsReadFrom, AreReadFrom}
+use Rattle.tao_images.specs.Paths.{piece, refusal_at, path_refusal, read_at, buckets_read, IsReadFrom, AreReadFrom, HoldsLatest}
 use Rattle.tao_images.proofs.KnownLemmas.{node_within}
 use Rattle.tao_images.proofs.Refusals.{held_by}
 
@@ -58,17 +58,26 @@ all_given {X} P f a (suc n) each = here (f a) refl (all_given P f (a + 1) n (λ 
     here None is rest = rest
     here (Some x) is rest = All-cons P x (filter_map f (range_with_len (a + 1) n)) (each a x (omega arith) (omega arith) is) rest
 
-module _ (key : List ℕ) (s : Shape) (skipped : ℕ → Bool) (version : ℕ → ℕ) (tag : ℕ → List ℕ) (leaf : ℕ) (path : List ℕ) (shape : IsShape s) (small : leaf < 2 ^ s.l)
-    (fit : IsBytes path) (none : path_refusal key s skipped version tag leaf path ≡ None) where
+module _ (key : List ℕ) (s : Shape) (skipped : ℕ → Bool) (version : ℕ → ℕ) (tag : ℕ → List ℕ) (leaf : ℕ) (path : List ℕ) (fit : IsBytes path)
+    (none : path_refusal key s skipped version tag leaf path ≡ None) where
   -- the bucket at a depth whose node isn't skipped
-  holds_at : (d : ℕ) → d ≤ s.l → skipped (node_at s.l leaf d) ≡ false
+  read_at_depth : (d : ℕ) → d ≤ s.l → skipped (node_at s.l leaf d) ≡ false
       → Holds key s (version (node_at s.l leaf d)) (tag (node_at s.l leaf d)) (node_at s.l leaf d) (piece s path d) (read_bucket key s (piece s path d))
   unfolding refusal_at
-  holds_at d within needed =
+  read_at_depth d within needed =
       let w = node_at s.l leaf d in
       let fine = all_none (refusal_at key s skipped version tag leaf path) (s.l + 1) none d (omega arith) in
       let here : node_refusal key s (version w) (tag w) w (piece s path d) ≡ None = sym (ap (λ skip. if skip then None else node_refusal key s (version w) (tag w) w (piece s path d)) needed) ∙ fine in
       read_holds key s (version w) (tag w) w (piece s path d) (bytes_take (bucket_len s) (drop (d * bucket_len s) path) (bytes_drop (d * bucket_len s) path fit)) here
+
+  pub latest_held : HoldsLatest key s skipped version tag leaf path
+  latest_held d within needed = (read_bucket key s (piece s path d), read_at_depth d within needed)
+
+module _ (key : List ℕ) (s : Shape) (skipped : ℕ → Bool) (version : ℕ → ℕ) (tag : ℕ → List ℕ) (leaf : ℕ) (path : List ℕ) (small : leaf < 2 ^ s.l)
+    (fit : IsBytes path) (none : path_refusal key s skipped version tag leaf path ≡ None) where
+  holds_at : (d : ℕ) → d ≤ s.l → skipped (node_at s.l leaf d) ≡ false
+      → Holds key s (version (node_at s.l leaf d)) (tag (node_at s.l leaf d)) (node_at s.l leaf d) (piece s path d) (read_bucket key s (piece s path d))
+  holds_at d within needed = read_at_depth key s skipped version tag leaf path fit none d within needed
 
   read_from : (d : ℕ) (bucket : Bucket) → d ≤ s.l → read_at key s skipped leaf path d ≡ Some bucket → IsReadFrom key s version tag leaf path bucket
   unfolding read_at

@@ -1,3 +1,5 @@
+pub mod AnswerLaws
+pub mod Answers
 pub mod Honesty
 pub mod Nodes
 pub mod Orders

@@ -1,5 +1,5 @@
 -- The buckets of a path, the root's first, against what is known of its nodes.
-use Rattle.std.specs.Prelude.{◌≡◌, ℕ, ◌+◌, ◌≤◌, Bool, not, List, filter, Option, Some, None, All, if◌then◌else◌}
+use Rattle.std.specs.Prelude.{◌≡◌, ℕ, ◌+◌, ◌≤◌, ◌<◌, Bool, false, not, List, filter, slice_index, Option, Some, None, All, if◌then◌else◌}
 use Rattle.std.specs.List.{filter_map, range_with_len}
 use Rattle.tao_base.specs.Images.{bucket_in}
 use Rattle.tao_base.specs.Limits.{Shape, bucket_len}
@@ -12,6 +12,10 @@ use Rattle.tao_base.specs.Buckets.{IsInForm}
 use Rattle.tao_model.specs.Trace.{nodes_in}
 use Rattle.tao_images.specs.declared.nodes.Refused.{Refused}
 use Rattle.tao_images.specs.Nodes.{Holds, node_refusal}
+
+-- a list of bytes
+abbrev pub AreBytes : List ℕ → Type 0
+AreBytes bytes = (i : ℕ) → slice_index bytes i < 256
 
 -- the bucket at depth d of a path
 abbrev pub piece : Shape → List ℕ → ℕ → List ℕ
@@ -26,6 +30,11 @@ refusal_at key s skipped version tag leaf path d =
 -- the first refusal from the root on
 abbrev pub path_refusal : List ℕ → Shape → (ℕ → Bool) → (ℕ → ℕ) → (ℕ → List ℕ) → ℕ → List ℕ → Option Refused
 path_refusal key s skipped version tag leaf path = first_of (filter_map (refusal_at key s skipped version tag leaf path) (range_with_len 0 (s.l + 1)))
+
+-- at each depth whose node isn't skipped, the path holds a bucket of the node's latest write
+abbrev pub HoldsLatest : List ℕ → Shape → (ℕ → Bool) → (ℕ → ℕ) → (ℕ → List ℕ) → ℕ → List ℕ → Type 0
+HoldsLatest key s skipped version tag leaf path = (d : ℕ) → d ≤ s.l → skipped (node_at s.l leaf d) ≡ false
+    → (bucket : Bucket) × Holds key s (version (node_at s.l leaf d)) (tag (node_at s.l leaf d)) (node_at s.l leaf d) (piece s path d) bucket
 
 -- the same is known of each node of the tree, and the same tag where its latest write has one
 pub record IsKnownAlike (s : Shape) (skipped skipped' : ℕ → Bool) (version version' : ℕ → ℕ) (tag tag' : ℕ → List ℕ) : Type 0 where

@@ -1,5 +1,5 @@
 //! What holds of every refusal, order and bucket.
-ghost use Rattle.std.specs.Prelude.{◌≡◌, ◌↔◌, ◌≤◌, ◌<◌, ◌^◌, ℕ, slice_index, Bool, false, List, Some, None, length, drop, All};
+ghost use Rattle.std.specs.Prelude.{◌≡◌, ◌↔◌, ◌≤◌, ◌<◌, ◌^◌, ℕ, Bool, false, List, Some, None, length, drop, All};
 ghost use Rattle.std.specs.List.{slice_index_or};
 ghost use Rattle.tao_base.specs.Limits.{Shape, IsShape, slots_len};
 ghost use Rattle.tao_base.specs.Links.{FitsLinks, order_limit};
@@ -11,22 +11,20 @@ ghost use Rattle.tao_bucket.specs.Encoding.{format_of, tag_of};
 ghost use Rattle.tao_model.specs.Residence.{HasEntriesOf};
 ghost use Rattle.tao_images.specs.declared.nodes.Refused.{Refused};
 ghost use Rattle.tao_images.specs.Honesty.{IsUnforged, HasTagOf};
-ghost use Rattle.tao_images.specs.Nodes.{Holds, IsRefusalOf};
+ghost use Rattle.tao_images.specs.Nodes.{IsRefusalOf};
 ghost use Rattle.tao_images.specs.Orders.{IsOrderOf};
-ghost use Rattle.tao_images.specs.Paths.{piece, path_refusal, buckets_read, AreReadFrom, IsKnownAlike};
+ghost use Rattle.tao_images.specs.Paths.{AreBytes, piece, path_refusal, buckets_read, AreReadFrom, HoldsLatest, IsKnownAlike};
 
 /// A path is not refused whose nodes, but for those that are skipped, hold buckets of their latest writes.
 pub fn nothing_refused()
     ensures { (key : List ℕ) (s : Shape) (skipped : ℕ → Bool) (version : ℕ → ℕ) (tag : ℕ → List ℕ) (leaf : ℕ) (path : List ℕ) → IsShape s
-        → ((d : ℕ) → d ≤ s.l → skipped (node_at s.l leaf d) ≡ false
-        → (bucket : Bucket) × Holds key s (version (node_at s.l leaf d)) (tag (node_at s.l leaf d)) (node_at s.l leaf d) (piece s path d) bucket)
-        → path_refusal key s skipped version tag leaf path ≡ None }
+        → HoldsLatest key s skipped version tag leaf path → path_refusal key s skipped version tag leaf path ≡ None }
 {}
 
 /// What is read from a path that isn't refused.
 pub fn read_means()
-    ensures { (key : List ℕ) (s : Shape) (skipped : ℕ → Bool) (version : ℕ → ℕ) (tag : ℕ → List ℕ) (leaf : ℕ) (path : List ℕ) → IsShape s → leaf < 2 ^ s.l
-        → ((i : ℕ) → slice_index path i < 256) → path_refusal key s skipped version tag leaf path ≡ None
+    ensures { (key : List ℕ) (s : Shape) (skipped : ℕ → Bool) (version : ℕ → ℕ) (tag : ℕ → List ℕ) (leaf : ℕ) (path : List ℕ) → leaf < 2 ^ s.l
+        → AreBytes path → path_refusal key s skipped version tag leaf path ≡ None
         → AreReadFrom key s skipped version tag leaf path (buckets_read key s skipped leaf path) }
 {}
 

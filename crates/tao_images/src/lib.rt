@@ -1,6 +1,7 @@
 //! The bytes of nodes, read against what is known of their latest writes, and orders, written and compared.
 #![tactic(auto)]
 
+mod answers;
 mod comparing;
 mod laws;
 mod nodes;
@@ -9,6 +10,11 @@ mod paths;
 #[cfg(test)]
 mod tests;
 
+pub use answers::{
+    done_has_tags, fetch_is_read, fetch_is_taken, fetch_may_be_done, fetch_may_fail, leaf_is_read,
+    leaf_is_taken, leaf_may_fail, read_is_latest, scan_reads_first_met, unaltered_is_honest,
+    written_is_unforged,
+};
 pub use comparing::is_order;
 pub use laws::{
     known_alike, nothing_refused, orders_fit, orders_have_tags, read_means, refusal_means,
