@@ -12,7 +12,7 @@ ghost use Rattle.tao_model.specs.Residence.{HasEntriesOf};
 ghost use Rattle.tao_images.specs.declared.nodes.Refused.{Refused};
 ghost use Rattle.tao_images.specs.Honesty.{IsUnforged, HasTagOf};
 ghost use Rattle.tao_images.specs.Nodes.{IsRefusalOf};
-ghost use Rattle.tao_images.specs.Orders.{IsOrderOf};
+ghost use Rattle.tao_images.specs.Orders.{IsOrderOf, IssuedStays};
 ghost use Rattle.tao_images.specs.Paths.{AreBytes, piece, path_refusal, buckets_read, AreReadFrom, HoldsLatest, IsKnownAlike};
 
 /// A path is not refused whose nodes, but for those that are skipped, hold buckets of their latest writes.
@@ -54,6 +54,11 @@ pub fn orders_have_tags()
     ensures { (key : List ℕ) (s : Shape) (version nonce : ℕ) (buckets : List Bucket) (order : Order) (i : ℕ) (bucket : Bucket) → IsShape s
         → IsOrderOf key s version nonce buckets order → All (IsInForm s) buckets → format_of s.form version ≡ 2 → i < length buckets → bucket ≡ slice_index_or buckets i bucket
         → drop (slots_len s.z s.b) (piece s order.image i) ≡ tag_of key s bucket }
+{}
+
+/// An order of a session stays one with more events.
+pub fn issued_stays()
+    ensures { IssuedStays }
 {}
 
 /// A bucket that is no forgery and has the tag of the written one has its entries.

@@ -17,8 +17,8 @@ pub use answers::{
 };
 pub use comparing::is_order;
 pub use laws::{
-    known_alike, nothing_refused, orders_fit, orders_have_tags, read_means, refusal_means,
-    unforged_is_honest,
+    issued_stays, known_alike, nothing_refused, orders_fit, orders_have_tags, read_means,
+    refusal_means, unforged_is_honest,
 };
 pub use nodes::{Refused, read_node};
 pub use orders::{order_room, write_order};
