@@ -4,3 +4,4 @@ pub mod Honesty
 pub mod Nodes
 pub mod Orders
 pub mod Paths
+pub mod WorkedAnswers

@@ -9,6 +9,7 @@ mod orders;
 mod paths;
 #[cfg(test)]
 mod tests;
+mod worked;
 
 pub use answers::{
     done_has_tags, fetch_is_read, fetch_is_taken, fetch_may_be_done, fetch_may_fail, leaf_is_read,
@@ -23,3 +24,4 @@ pub use laws::{
 pub use nodes::{Refused, read_node};
 pub use orders::{order_room, write_order};
 pub use paths::{Known, read_path};
+pub use worked::{first_refusals, met_nodes, skipped_nodes, worked_orders};
