@@ -1,4 +1,4 @@
--- Residents, node by node.
+-- The lists of residents as functions of the node, and what admitting and exchanging make of them.
 use Rattle.std.specs.Prelude.{◌≡◌, ℕ, Bool, false, ◌==◌, if◌then◌else◌, map, List, [], ◌∷◌, Option, Some, None, is_some, slice_set, IfSome, ⊤}
 use Rattle.std.specs.List.{slice_index_or, list_any}
 use Rattle.std.specs.Option.{option_map}
@@ -37,7 +37,7 @@ AreAway nodes (bucket ∷ buckets) = (is_some (slice_index_or (with_taken nodes 
 abbrev pub relisted : List ℕ → List (List Entry) → ℕ → Bucket → Bucket
 relisted nodes lists w bucket = record bucket { entries = with_lists nodes lists (λ v. bucket.entries) w }
 
--- of the residents, these nodes have got these lists
+-- of the residents, these nodes have these lists in the place of theirs
 abbrev pub Relists : List ℕ → List (List Entry) → List (Option Bucket) → List (Option Bucket) → Type 0
 Relists nodes lists old new = (w : ℕ) → slice_index_or new w None ≡ option_map (relisted nodes lists w) (slice_index_or old w None)
 

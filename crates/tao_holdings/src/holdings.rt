@@ -21,7 +21,7 @@ use crate::takings::take_all;
 use crate::versions::set_all;
 use std::alloc::Global;
 use std::marker::Model;
-use tao_base::{Block, Bucket, Buckets, Entries, NoMemory, Params};
+use tao_base::{Block, Bucket, Buckets, Entries, Entry, NoMemory, Params};
 use tao_flush::{Positions, Stash, load};
 use tao_subtree::Subtree;
 
@@ -80,7 +80,7 @@ impl Holdings {
         Ok((buckets, holdings))
     }
 
-    /// Admits what was fetched of the path to a leaf: the buckets of just those nodes that aren't held, from the root on.
+    /// Admits what was fetched of the path to a leaf: the buckets of the nodes that aren't held, root first.
     pub fn take_in(&mut self, leaf: u32, taken: &mut Vec<Bucket>)
         requires leaf { leaf < 2 ^ self.old.shape.l }
         requires nodes { nodes_in taken.old.items ≡ filter (λ w. not (is_held self.old w)) (path self.old.shape.l leaf) }
@@ -95,7 +95,8 @@ impl Holdings {
         take_all(&mut self.subtree, taken);
     }
 
-    /// Writes the block's value from the stash, or else from its first copy on the path to a leaf; zero bytes if there is none.
+    /// Overwrites the value with the block's: that of the stash, or else that of the first copy on the path to a leaf from the root on, or
+    /// zero bytes if there is no copy.
     pub fn found(&self, leaf: u32, block: u32, value: &mut Block)
         requires leaf { leaf < 2 ^ self.now.shape.l }
         requires value { length value.old ≡ self.now.shape.b }
@@ -156,6 +157,13 @@ impl Holdings {
         self.subtree.entries(node)
     }
 
+    /// The entries of the stash.
+    pub fn stash(&self) -> &[Entry]
+        ensures { result.now ≡ self.now.stash }
+    {
+        self.stash.entries()
+    }
+
     /// The invariant of what is held, for callers' proofs.
     pub fn forms(&self)
         ensures { AreForms self.now }
@@ -163,8 +171,7 @@ impl Holdings {
         let _first = self.positions.leaf(0);
     }
 
-    /// The write-back of this version, of this node among others, was acknowledged: the node leaves, unless it was touched since or a fetch
-    /// covers it.
+    /// The write-back of this version, which has this node, was acknowledged: the node leaves, unless a fetch touched it since or covers it.
     pub fn forget_one(&mut self, version: u32, node: u32)
         ensures held { is_held self.new ≡ without self.old version node (is_held self.old) }
         ensures contents { contents_in self.new ≡ left_by self.old version node (contents_in self.old) }
@@ -183,7 +190,7 @@ impl Holdings {
         self.subtree.begin_fetch(leaf);
     }
 
-    /// Ends a fetch of the path to a leaf, the `t`-th that ends, counted from 1.
+    /// Ends a fetch of the path to a leaf, the `t`-th that ends. Its nodes are touched by it.
     pub fn end_fetch(&mut self, leaf: u32, t: u64)
         requires leaf { leaf < 2 ^ self.old.shape.l }
         requires path { IsPathHeld self.old leaf }

@@ -26,8 +26,8 @@ pub(crate) fn swap_path(p: &Params, subtree: &mut Subtree, leaf: u32, lists: &mu
     }
 }
 
-#[tactic(auto, using(crate::proofs::Swapped::swaps_one))]
 /// Exchanges the list of one node with the one given.
+#[tactic(auto, using(crate::proofs::Swapped::swaps_one))]
 pub(crate) fn swap_one(subtree: &mut Subtree, node: u32, list: &mut Entries)
     requires { is_some (resident_at subtree.old node) ≡ true }
     ensures residents { Relists (node ∷ []) (list.old ∷ []) subtree.old.residents subtree.new.residents }

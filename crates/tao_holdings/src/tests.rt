@@ -13,6 +13,7 @@ fn loaded(rt: HostRuntime) -> Result<(), Fail> {
     let (buckets, holdings) = Holdings::load(alloc, &p, &[3], &blocks)?;
     assert_eq!(rt; buckets.as_slice().len(), 3);
     assert_eq!(rt; (holdings.leaf(0), holdings.count()), (1, 0));
+    assert_eq!(rt; holdings.stash().len(), 0);
     let mut value = Block::from_slice(alloc, &[7, 7, 7, 7])?;
     holdings.found(1, 0, &mut value);
     assert_eq!(rt; value.as_slice(), [0, 0, 0, 0].as_slice());
