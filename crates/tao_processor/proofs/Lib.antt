@@ -8,4 +8,5 @@ pub mod IssueKept
 pub mod Kept
 pub mod Opened
 pub mod ReserveKept
+pub mod Told
 pub mod WrittenBack

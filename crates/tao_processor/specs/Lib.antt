@@ -1,4 +1,5 @@
 pub mod Groups
+pub mod Readers
 pub mod State
 pub mod Steps
 pub mod Topping

@@ -1,5 +1,5 @@
 //! Drops nodes that may leave.
-ghost use Rattle.std.specs.Prelude.{◌≡◌, ℕ};
+ghost use Rattle.std.specs.Prelude.{◌≡◌};
 ghost use Rattle.tao_base.specs.declared.session.Event.TheVariants.{Issue};
 ghost use Rattle.tao_model.specs.WholeRecords.{IsAt};
 ghost use Rattle.tao_model.specs.Trace.{nodes_in};
@@ -9,13 +9,13 @@ ghost use Rattle.tao_processor.specs.Steps.{Forgets};
 use tao_base::{Bucket, Event};
 use tao_holdings::Holdings;
 
-/// The buckets of this version's write-back, which is at this place of the record.
-pub(crate) fn issued(events: &[Event], place: usize, version: u32) -> &[Bucket]
+/// The first nonce and the buckets of this version's write-back, which is at this place of the record.
+pub(crate) fn issued(events: &[Event], place: usize, version: u32) -> (u64, &[Bucket])
     requires there { IsIssueAt events.now place version }
-    ensures { (nonce : ℕ) × IsAt events.now place (Issue version nonce result.now) }
+    ensures { IsAt events.now place (Issue version result.0 result.1.now) }
 {
     match &events[place] {
-        Event::Issue { buckets, .. } => buckets.as_slice(),
+        Event::Issue { nonce, buckets, .. } => (*nonce, buckets.as_slice()),
         Event::Arrive { .. } | Event::Done { .. } | Event::Acked { .. } | Event::Fault { .. } => {
             unreachable!()
         }

@@ -5,6 +5,8 @@ ghost use Rattle.tao_model.specs.Events.{has_fault, arrived, dones, issues};
 ghost use Rattle.tao_model.specs.Requests.{fetched_leaf};
 ghost use Rattle.tao_model.specs.Lawful.{MayFollow};
 
+mod readers;
+
 use crate::fetches::{Fetch, leaf_now};
 use crate::finishing::finish;
 use crate::forgetting::{forget_all, issued};
@@ -229,7 +231,7 @@ impl Processor {
         ensures state { self.new ≡ record self.old { history = with_event self.old.history (Acked version); holdings = self.new.holdings } }
     {
         let place = self.places[version as usize - 1];
-        let buckets = issued(self.session.events(), place, version);
+        let (_, buckets) = issued(self.session.events(), place, version);
         forget_all(&mut self.holdings, version, buckets);
         self.acknowledged.done(u64::from(version) - 1);
         self.acks += 1;

@@ -9,8 +9,8 @@ use Rattle.tao_processor.specs.State.{ProcessorState}
 use Rattle.tao_processor.proofs.AckedKept.{acked_ready, acked_keeps}
 use Rattle.tao_processor.proofs.processor.Processor.acked.Goals as goal
 
-pub issued-buckets-requires : goal.issued-buckets-requires
-issued-buckets-requires c =
+pub issued-requires : goal.issued-requires
+issued-requires c =
     let ready = acked_ready c.args.version c.self.invariant (ap (λ (st : ProcessorState). st.history) c.self.view_is) c.requires.running c.requires.follows in
     let place : c.index-place.result.now ≡ slice_index c.self.inside.places.items (c.args.version - 1) = get_or_read_under c.self.inside.places.items (c.args.version - 1) (length c.self.inside.places.items) c.index-place.result.now 0 c.index-place.ensures (omega (arith, ready.low, ready.high, ready.places)) refl in
     record {
@@ -38,9 +38,8 @@ add_acked-requires c =
 pub invariant_of-self : goal.invariant_of-self
 invariant_of-self c =
     let ready = acked_ready c.args.version c.self.invariant (ap (λ (st : ProcessorState). st.history) c.self.view_is) c.requires.running c.requires.follows in
-    let at = c.issued-buckets.ensures in
     let place : c.index-place.result.now ≡ slice_index c.self.inside.places.items (c.args.version - 1) = get_or_read_under c.self.inside.places.items (c.args.version - 1) (length c.self.inside.places.items) c.index-place.result.now 0 c.index-place.ensures (omega (arith, ready.low, ready.high, ready.places)) refl in
-    acked_keeps {nonce = at.0} c.self.invariant ready
-    (subst (λ (es : List Event). IsAt es (slice_index c.self.inside.places.items (c.args.version - 1)) (Issue c.args.version at.0 c.issued-buckets.result.now)) c.events.ensures
-    (subst (λ p. IsAt c.events.result.now p (Issue c.args.version at.0 c.issued-buckets.result.now)) place at.1))
+    acked_keeps {nonce = c.issued.result.0} c.self.invariant ready
+    (subst (λ (es : List Event). IsAt es (slice_index c.self.inside.places.items (c.args.version - 1)) (Issue c.args.version c.issued.result.0 c.issued.result.1.now)) c.events.ensures
+    (subst (λ p. IsAt c.events.result.now p (Issue c.args.version c.issued.result.0 c.issued.result.1.now)) place c.issued.ensures))
     c.add_acked.ensures (c.done.ensures ∙ ap (λ n. slice_set c.self.inside.acknowledged (n - 1) true) c.from.ensures) c.forget_all.ensures
