@@ -1,8 +1,12 @@
 -- Numbers are read from decimal, and bytes from hex.
-use Rattle.std.proofs.Common.{◌≡◌, ℕ, ◌^◌, List, Option, Some, None, Result, Ok, Err, ap, arith}
+use Rattle.std.proofs.Common.{◌≡◌, ◌≢◌, ◌↔◌, ℕ, ◌%◌, ◌^◌, true, List, length, get_or, Option, Some, None, Result, Ok, Err, is_ok, refl, sym, ap, ◌∙◌, arith}
+use Rattle.std.specs.Char.{is_ascii_hexdigit}
+use Rattle.std.specs.List.{list_all}
 use Rattle.std.specs.Option.{ok_or}
-use Rattle.hex.specs.Hex.{decode_of}
+use Rattle.std.proofs.lemmas.List.Sums.{AllPass-from_list_all, list_all-from_AllPass}
+use Rattle.hex.specs.Hex.{decode_of, is_hex_digit}
 use Rattle.hex.specs.declared.error.FromHexError.{FromHexError}
+use Rattle.hex.proofs.HexLemmas.{decode_of-digits, decode_of-ok}
 use Rattle.tao_text.specs.declared.faults.TextKind.{TextKind}
 use Rattle.tao_text.specs.declared.faults.TextKind.TheVariants.{Number, Hex}
 use Rattle.tao_text.specs.Spelling.{IsNumber, IsHex}
@@ -49,3 +53,28 @@ only_hex (Err e) kind h = cc h
 pub no_hex_fault : (word : List ℕ) (kind : TextKind) → hex_of word ≡ Err kind → kind ≡ Hex
 unfolding hex_of
 no_hex_fault word kind h = only_hex (decode_of word) kind h
+
+-- a word is hex if it has an even number of digits
+
+same_digits : (c : ℕ) → is_ascii_hexdigit c ≡ is_hex_digit c
+same_digits c = grind (arith)
+
+some_bytes : (r : Result (List ℕ) FromHexError) → is_ok (or_no_hex r) ≡ true → (bytes : List ℕ) × (r ≡ Ok bytes)
+some_bytes (Ok bytes) h = (bytes, refl)
+some_bytes (Err e) h = cc h
+
+pub even_hex : (word : List ℕ) → length word % 2 ≡ 0 → (list_all is_ascii_hexdigit word ≡ true) ↔ (is_ok (hex_of word) ≡ true)
+unfolding hex_of
+even_hex word even = (
+  λ h.
+      let digits = AllPass-from_list_all is_ascii_hexdigit word h in
+      let bytes = decode_of-digits word even (λ k d lt. sym (same_digits (get_or word k d)) ∙ digits k d lt) in
+      ap (λ (r : Result (List ℕ) FromHexError). is_ok (or_no_hex r)) bytes.1,
+  λ h.
+      let bytes = some_bytes (decode_of word) h in
+      list_all-from_AllPass is_ascii_hexdigit word (λ k d lt. same_digits (get_or word k d) ∙ (decode_of-ok word bytes.0 bytes.1).1 k d lt),
+)
+
+pub odd_hex : (word : List ℕ) → length word % 2 ≢ 0 → ¬ (is_ok (hex_of word) ≡ true)
+unfolding hex_of
+odd_hex word odd h = let bytes = some_bytes (decode_of word) h in odd (decode_of-ok word bytes.0 bytes.1).0

@@ -30,8 +30,8 @@ pub(crate) fn line_said(alloc: Global, line: &[u8]) -> Result<Option<Said>, Text
 }
 
 #[tactic(auto, unfolding(crate::specs::Forms::is_text))]
-// Whether all bytes are printable.
-fn is_text(line: &[u8]) -> bool
+/// Whether all bytes are printable ASCII or spaces.
+pub fn is_text(line: &[u8]) -> bool
     ensures { result ≡ is_text line.now }
 {
     line.iter().all(|byte| b' ' <= *byte && *byte <= b'~')

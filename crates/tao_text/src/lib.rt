@@ -14,6 +14,7 @@ mod values;
 mod words;
 
 pub use faults::{TextFault, TextKind};
+pub use forms::is_text;
 pub use laws::{
     lines_are_spelled, lines_end_with_a_byte, numbers_are_decimal, printed_lines_are_spelled,
     scripts_keep_limits, texts_are_read, values_are_hex, words_stand_between_spaces,
@@ -23,6 +24,8 @@ pub use printing::{
 };
 pub use reading::read_script;
 pub use script::{Script, Step, Steps, What};
+pub use values::{is_hex, number_of, wide_number};
+pub use words::{next_line, next_word, no_more_words};
 
 #[cfg(test)]
 mod tests;

@@ -1,6 +1,7 @@
 use crate::{
-    Script, Step, TextFault, TextKind, What, begin_line, end_line, line_hex, line_words, push_hex,
-    push_number, push_numbers, push_word, read_script,
+    Script, Step, TextFault, TextKind, What, begin_line, end_line, is_hex, is_text, line_hex,
+    line_words, next_line, next_word, no_more_words, number_of, push_hex, push_number,
+    push_numbers, push_word, read_script, wide_number,
 };
 use std::alloc::Global;
 use std::test::Fail;
@@ -251,4 +252,32 @@ fn names_and_numbers_of_faults(rt: HostRuntime) -> Result<(), Fail> {
         [1, 2, 3, 4, 5, 6, 7, 8, 9, 10].as_slice()
     );
     Ok(())
+}
+
+#[test]
+fn lines_and_words(rt: HostRuntime) {
+    let (line, rest) = next_line(b"  ack  7\n\nz").unwrap_or((b"", b""));
+    assert!(rt; line == b"  ack  7".as_slice() && rest == b"\nz".as_slice());
+    assert_eq!(rt; next_line(rest), Some((b"".as_slice(), b"z".as_slice())));
+    assert_eq!(rt; next_line(b""), None);
+    let (word, rest) = next_word(line).unwrap_or((b"", b""));
+    assert!(rt; word == b"ack".as_slice() && rest == b" 7".as_slice());
+    assert_eq!(rt; no_more_words(rest), Err(TextKind::Word));
+    assert_eq!(rt; no_more_words(b"  "), Ok(()));
+    assert_eq!(rt; next_word(b"  "), Err(TextKind::Word));
+}
+
+#[test]
+fn numbers_and_hex(rt: HostRuntime) {
+    assert_eq!(rt; number_of(b"4294967295"), Ok(4294967295));
+    assert_eq!(rt; number_of(b"4294967296"), Err(TextKind::Number));
+    assert_eq!(rt;
+        wide_number(b"18446744073709551615"),
+        Some(18446744073709551615)
+    );
+    assert_eq!(rt; wide_number(b"18446744073709551616"), None);
+    assert!(rt; is_text(b" az~") && !is_text(b"a\tz"));
+    for (word, wanted) in [("", true), ("09afAF", true), ("abc", false), ("0g", false)] {
+        assert!(rt; is_hex(word.as_bytes()) == wanted, "at {word}");
+    }
 }

@@ -7,7 +7,7 @@ use crate::faults::TextKind;
 
 #[tactic(auto, using(crate::proofs::Cuts::lines_none, crate::proofs::Cuts::lines_cut, crate::proofs::Cuts::after_shorter))]
 /// The first line of a text, and the rest.
-pub(crate) fn next_line(text: &[u8]) -> Option<(&[u8], &[u8])>
+pub fn next_line(text: &[u8]) -> Option<(&[u8], &[u8])>
     ensures { MatchOption result (lines text.now ≡ []) (λ r. (lines text.now ≡ r.0.now ∷ lines r.1.now) × (length r.1.now < length text.now)) }
 {
     if text.is_empty() {
@@ -18,7 +18,7 @@ pub(crate) fn next_line(text: &[u8]) -> Option<(&[u8], &[u8])>
 
 #[tactic(auto, using(crate::proofs::Cuts::words_none, crate::proofs::Cuts::words_more, crate::proofs::Cuts::words_after_space, crate::proofs::Cuts::after_shorter))]
 /// The first word of a line, and the rest. A line without words gives the fault Word.
-pub(crate) fn next_word(line: &[u8]) -> Result<(&[u8], &[u8]), TextKind>
+pub fn next_word(line: &[u8]) -> Result<(&[u8], &[u8]), TextKind>
     ensures { MatchResult result (λ r. (words line.now ≡ r.0.now ∷ words r.1.now) × (length r.1.now < length line.now)) (λ kind. (kind ≡ TextKind.Word) × (words line.now ≡ [])) }
 {
     let mut rest = line;
@@ -33,7 +33,7 @@ pub(crate) fn next_word(line: &[u8]) -> Result<(&[u8], &[u8]), TextKind>
 }
 
 /// Gives the fault Word if there are more words.
-pub(crate) fn no_more_words(line: &[u8]) -> Result<(), TextKind>
+pub fn no_more_words(line: &[u8]) -> Result<(), TextKind>
     ensures ok { OnOk result (words line.now ≡ []) }
     ensures err { IfErr result (λ kind. (kind ≡ TextKind.Word) × HasWords (words line.now)) }
 {
