@@ -1,5 +1,5 @@
 -- What is within the parameters, and the fault of what isn't.
-use Rattle.std.proofs.Common.{◌≡◌, ◌≢◌, ◌==◌, ◌⊎◌, inl, inr, ℕ, ◌*◌, ◌%◌, ◌^◌, ◌<◌, ◌≤◌, ◌&&◌, ◌||◌, Bool, true, false, cond, nat_le, nat_lt, length, Some, None, Result, Ok, Err, refl, subst, arith, ltb-false, leb-false}
+use Rattle.std.proofs.Common.{◌≡◌, ◌≢◌, ◌==◌, ◌⊎◌, inl, inr, ⊎_elim, ℕ, ◌*◌, ◌%◌, ◌^◌, ◌<◌, ◌≤◌, ◌&&◌, ◌||◌, Bool, true, false, cond, nat_le, nat_lt, length, Some, None, Result, Ok, Err, refl, subst, arith, ltb-false, leb-false}
 use Rattle.std.proofs.lemmas.Bool.{and_parts, and_cases, cases_eq, or_parts, eqb-true, eq-eqb, ltb-true, leb-true}
 use Rattle.tao_base.specs.Limits.{Shape, IsShape, in_form, shape, shape_of, tree_len}
 use Rattle.tao_base.specs.Tree.{node_count}
@@ -10,9 +10,10 @@ use Rattle.tao_base.specs.declared.parameters.ParamFault.TheVariants.{Height, Bu
 use Rattle.tao_base.specs.declared.storage.Entry.{Entry}
 use Rattle.tao_text.specs.declared.faults.TextKind.{TextKind}
 use Rattle.tao_text.specs.declared.script.What.{What}
-use Rattle.tao_text.specs.Breaks.{HasOtherLength, IsOutOfRange, StepHasOtherLength, StepIsOutOfRange}
-use Rattle.tao_text.specs.Limits.{call_fits, entry_fits, step_fits}
-use Rattle.tao_text.specs.Texts.{IsCallOf, IsEntryOf, IsStepOf}
+use Rattle.tao_text.specs.Breaks.{HasOtherLength, IsOutOfRange, OpIsOutOfRange, StepHasOtherLength, StepIsOutOfRange}
+use Rattle.tao_text.specs.Forms.{◌>>=◌}
+use Rattle.tao_text.specs.Limits.{call_fits, entry_fits, op_fits, step_fits}
+use Rattle.tao_text.specs.Texts.{IsCallOf, IsEntryOf, IsOpOf, IsStepOf}
 
 -- the parameters
 
@@ -116,26 +117,36 @@ entry_judged s entry =
     (λ failed. at_most entry.id s.n failed))
     (λ failed. other (length entry.value) s.b failed)
 
-known : (client id n : ℕ) → (nat_le client 63 && nat_lt id n) ≡ true → ¬ ((63 < client) ⊎ (n ≤ id))
-known client id n h (inl past) = let p = leb-true client 63 (and_parts (nat_le client 63) (nat_lt id n) h).0 in omega arith
-known client id n h (inr past) = let p = ltb-true id n (and_parts (nat_le client 63) (nat_lt id n) h).1 in omega arith
+pub op_judged : (s : Shape) (op : Op) → Fits (HasOtherLength s op) (OpIsOutOfRange s op) (op_fits s op)
+unfolding op_fits
+op_judged s (Op.Read id) = in_range ⊥ (s.n ≤ id) (nat_lt id s.n) (λ failed. failed) (λ held past. let below = ltb-true id s.n held in omega arith) (λ failed. at_most id s.n failed)
+op_judged s (Op.Write id value) =
+    as_long (length value ≢ s.b) (s.n ≤ id) (length value == s.b) (cond (nat_lt id s.n) (Ok tt) (Err TextKind.Range))
+    (λ long. in_range (length value ≢ s.b) (s.n ≤ id) (nat_lt id s.n) (equal (length value) s.b long)
+    (λ held past. let below = ltb-true id s.n held in omega arith)
+    (λ failed. at_most id s.n failed))
+    (λ failed. other (length value) s.b failed)
+op_judged s Op.Pad = (λ failed. failed, λ failed. failed)
 
-unknown : (client id n : ℕ) → (nat_le client 63 && nat_lt id n) ≡ false → (63 < client) ⊎ (n ≤ id)
-unknown client id n h =
-    elim (and_cases (nat_le client 63) (nat_lt id n) h) [
-      | inl failed ↦ inl (above client 63 failed)
-      | inr failed ↦ inr (at_most id n failed)
-    ]
+with_client : (HasLength HasRange : Type 0) (client : ℕ) (r : Result Unit TextKind) → Fits HasLength HasRange r → Fits HasLength ((63 < client) ⊎ HasRange) (r >>= λ fits. cond (nat_le client 63) (Ok tt) (Err TextKind.Range))
+with_client HasLength HasRange client (Ok done) fits =
+    in_range HasLength ((63 < client) ⊎ HasRange) (nat_le client 63) fits.0
+    (λ held past. ⊎_elim (λ high. let p = leb-true client 63 held in absurd (omega arith)) fits.1 past)
+    (λ failed. inl (above client 63 failed))
+with_client HasLength HasRange client (Err TextKind.NotText) none = absurd none
+with_client HasLength HasRange client (Err TextKind.Word) none = absurd none
+with_client HasLength HasRange client (Err TextKind.Number) none = absurd none
+with_client HasLength HasRange client (Err TextKind.Hex) none = absurd none
+with_client HasLength HasRange client (Err TextKind.Length) has = has
+with_client HasLength HasRange client (Err TextKind.Range) has = (has.0, inr has.1)
+with_client HasLength HasRange client (Err TextKind.Order) none = absurd none
+with_client HasLength HasRange client (Err TextKind.TapeShort) none = absurd none
+with_client HasLength HasRange client (Err TextKind.TooLong) none = absurd none
+with_client HasLength HasRange client (Err TextKind.Memory) none = absurd none
 
 pub call_judged : (s : Shape) (client : ℕ) (op : Op) → Fits (HasOtherLength s op) (IsOutOfRange s client op) (call_fits s client op)
 unfolding call_fits
-call_judged s client (Op.Read id) =
-    in_range ⊥ ((63 < client) ⊎ (s.n ≤ id)) (nat_le client 63 && nat_lt id s.n) (λ failed. failed) (known client id s.n) (unknown client id s.n)
-call_judged s client (Op.Write id value) =
-    as_long (length value ≢ s.b) ((63 < client) ⊎ (s.n ≤ id)) (length value == s.b) (cond (nat_le client 63 && nat_lt id s.n) (Ok tt) (Err TextKind.Range))
-    (λ long. in_range (length value ≢ s.b) ((63 < client) ⊎ (s.n ≤ id)) (nat_le client 63 && nat_lt id s.n) (equal (length value) s.b long) (known client id s.n) (unknown client id s.n))
-    (λ failed. other (length value) s.b failed)
-call_judged s client Op.Pad = in_range ⊥ (63 < client) (nat_le client 63) (λ failed. failed) (λ held past. let p = leb-true client 63 held in omega arith) (λ failed. above client 63 failed)
+call_judged s client op = with_client (HasOtherLength s op) (OpIsOutOfRange s op) client (op_fits s op) (op_judged s op)
 
 a_node : (node count : ℕ) → (nat_le 1 node && nat_le node count) ≡ true → ¬ ((node ≡ 0) ⊎ (count < node))
 a_node node count h (inl none) = let p = leb-true 1 node (and_parts (nat_le 1 node) (nat_le node count) h).0 in omega arith
@@ -180,7 +191,12 @@ call_within s client (Op.Write id value) long known =
     let few : ¬ (63 < client) = λ past. known (inl past) in
     let low : ¬ (s.n ≤ id) = λ past. known (inr past) in
     (same_number (length value) s.b long, omega arith, omega arith)
-call_within s client Op.Pad long known = omega arith
+call_within s client Op.Pad long known = let few : ¬ (63 < client) = λ past. known (inl past) in omega arith
+
+pub op_within : (s : Shape) (op : Op) → ¬ HasOtherLength s op → ¬ OpIsOutOfRange s op → IsOpOf s op
+op_within s (Op.Read id) long known = omega arith
+op_within s (Op.Write id value) long known = (same_number (length value) s.b long, omega arith)
+op_within s Op.Pad long known = tt
 
 pub step_within : (s : Shape) (what : What) → ¬ StepHasOtherLength s what → ¬ StepIsOutOfRange s what → IsStepOf s what
 step_within s (What.Do client op) long known = call_within s client op long known

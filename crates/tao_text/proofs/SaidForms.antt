@@ -1,4 +1,4 @@
--- Words of a line form have the fault that is found at its places.
+-- Words of a form that all texts know have the fault that is found at its places.
 use Rattle.std.proofs.Common.{◌≡◌, ℕ, List, [], ◌∷◌, Option, None, Result, Ok, Err, refl, ◌∙◌}
 use Rattle.std.specs.Prelude.{All, codes}
 use Rattle.std.proofs.lemmas.List.Elements.{All-from_recursion}
@@ -7,8 +7,8 @@ use Rattle.tao_text.specs.declared.faults.TextKind.{TextKind}
 use Rattle.tao_text.specs.declared.faults.TextKind.TheVariants.{Word}
 use Rattle.tao_text.specs.declared.said.Said.{Said}
 use Rattle.tao_text.specs.declared.script.What.{What}
-use Rattle.tao_text.specs.Forms.{◌>>=◌, call_line, form_line, load_line, number_line, pad_words, put_line, read_line, read_words, said_behind, seal_line, step_behind, tape_line, tree_line, value_line, write_words}
-use Rattle.tao_text.specs.LineForms.{Part, IsOfForm, line_forms}
+use Rattle.tao_text.specs.Forms.{◌>>=◌, alone, call_line, form_line, load_line, number_line, pad_words, put_line, read_line, read_words, said_behind, step_behind, tape_line, tree_line, value_line, write_words}
+use Rattle.tao_text.specs.LineForms.{Part, IsOfForm, script_forms}
 use Rattle.tao_text.specs.LineForms.Part.{Fixed, ANumber, AValue, TheNumbers}
 use Rattle.tao_text.specs.Values.{number_of, hex_of}
 use Rattle.tao_text.proofs.SaidFaults.{all_numbers_fault, fault_in, fault_of, last_fault, numbers_fault, or_none, step_fault, values_fault}
@@ -38,7 +38,7 @@ tape_fault : (word : List ℕ) (words : List (List ℕ)) → fault_of (tape_line
 unfolding tape_line
 tape_fault word words = all_numbers_fault (word ∷ words)
 
-load_fault : (id hex : List ℕ) → fault_of (load_line (id ∷ hex ∷ [])) ≡ numbers_fault (id ∷ []) (values_fault (hex ∷ []))
+pub load_fault : (id hex : List ℕ) → fault_of (load_line (id ∷ hex ∷ [])) ≡ numbers_fault (id ∷ []) (values_fault (hex ∷ []))
 unfolding load_line
 load_fault id hex = step_fault (number_of id) _ _ (λ id. step_fault (hex_of hex) _ _ (λ value. refl))
 
@@ -62,7 +62,7 @@ read_at_fault : (fetch depth : List ℕ) → fault_of (read_line (fetch ∷ dept
 unfolding read_line
 read_at_fault fetch depth = step_fault (number_of fetch) _ _ (λ fetch. step_fault (number_of depth) _ _ (λ depth. refl))
 
-number_fault : (number : List ℕ) → fault_of (number_line (number ∷ [])) ≡ numbers_fault (number ∷ []) None
+pub number_fault : (number : List ℕ) → fault_of (number_line (number ∷ [])) ≡ numbers_fault (number ∷ []) None
 unfolding number_line
 number_fault number = or_none (fault_of (number_of number))
 
@@ -75,7 +75,7 @@ unfolding put_line
 put_at_fault version node = step_fault (number_of version) _ _ (λ version. step_fault (number_of node) _ _ (λ node. refl))
 
 -- what is said of a value has the value's fault
-kept : {A B : Type 0} (r : Result A TextKind) (f : A → B) (fault : Option TextKind) → fault_of r ≡ fault → fault_of (r >>= λ x. Ok (f x)) ≡ fault
+pub kept : {A B : Type 0} (r : Result A TextKind) (f : A → B) (fault : Option TextKind) → fault_of r ≡ fault → fault_of (r >>= λ x. Ok (f x)) ≡ fault
 kept r f fault h = last_fault r (λ x. Ok (f x)) (λ x. refl) ∙ h
 
 -- each form
@@ -106,7 +106,7 @@ of_key (name ∷ hex ∷ []) is = rw is.0 (kept _ Said.Key _ (value_fault hex))
 of_key words is = absurd (search is)
 
 of_seal : (words : List (List ℕ)) → Finds words (Fixed (codes "seal") ∷ [])
-unfolding said_behind seal_line
+unfolding said_behind alone
 of_seal (name ∷ []) is = rw is.0 (refl)
 of_seal words is = absurd (search is)
 
@@ -186,6 +186,6 @@ of_ack (name ∷ version ∷ []) is = rw is.0 (kept _ Said.Step _ (kept _ What.A
 of_ack words is = absurd (search is)
 
 -- all forms
-pub of_form : (words : List (List ℕ)) → All (Finds words) line_forms
-unfolding line_forms
-of_form words = All-from_recursion (Finds words) line_forms (of_tree words, (of_form_one words, (of_form_two words, (of_form_turn words, (of_key words, (of_seal words, (of_reopen words, (of_tape words, (of_load words, (of_do_read words, (of_do_write words, (of_do_pad words, (of_a_read words, (of_a_write words, (of_a_pad words, (of_read words, (of_read_at words, (of_done words, (of_put words, (of_put_at words, (of_ack words, tt)))))))))))))))))))))
+pub of_form : (words : List (List ℕ)) → All (Finds words) script_forms
+unfolding script_forms
+of_form words = All-from_recursion (Finds words) script_forms (of_tree words, (of_form_one words, (of_form_two words, (of_form_turn words, (of_key words, (of_seal words, (of_reopen words, (of_tape words, (of_load words, (of_do_read words, (of_do_write words, (of_do_pad words, (of_a_read words, (of_a_write words, (of_a_pad words, (of_read words, (of_read_at words, (of_done words, (of_put words, (of_put_at words, (of_ack words, tt)))))))))))))))))))))

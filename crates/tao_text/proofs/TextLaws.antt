@@ -1,6 +1,8 @@
--- A whole text: the script that its lines say, or the first line with a fault.
-use Rattle.std.proofs.Common.{◌≡◌, ◌⊎◌, inl, inr, ℕ, suc, ◌+◌, ◌^◌, ◌<◌, ◌≤◌, Bool, nat_le, List, [], ◌∷◌, ◌++◌, length, Option, Some, None, Result, Ok, Err, refl, sym, ap, ap₂, subst, ◌∙◌, arith, add-zero, append-nil, leb-true, leb-false, le-leb}
-use Rattle.std.proofs.lemmas.Bool.{cases_Bool, lt-leb}
+-- A text that says one script: that script, or the text's first fault.
+use Rattle.std.proofs.Common.{◌≡◌, ◌⊎◌, inl, inr, ℕ, ◌+◌, ◌^◌, ◌≤◌, Bool, true, false, List, [], ◌∷◌, length, Option, Some, None, IfSome, Result, Ok, Err, refl, sym, ap, subst, ◌∙◌, arith}
+use Rattle.std.specs.Prelude.{All, IsTrue}
+use Rattle.std.proofs.lemmas.Bool.{false≢true}
+use Rattle.std.proofs.lemmas.List.Elements.{All-head}
 use Rattle.std.proofs.lemmas.Option.{same_Some}
 use Rattle.tao_base.specs.Limits.{Shape}
 use Rattle.tao_base.specs.declared.storage.Entry.{Entry}
@@ -9,148 +11,122 @@ use Rattle.tao_text.specs.declared.faults.TextFault.{TextFault}
 use Rattle.tao_text.specs.declared.faults.TextKind.{TextKind}
 use Rattle.tao_text.specs.declared.script.Script.{Script}
 use Rattle.tao_text.specs.declared.script.Step.{Step}
-use Rattle.tao_text.specs.Breaks.{IsFirstFault, Item, shape_said}
-use Rattle.tao_text.specs.Scripts.{after_line, ended, fault_at, line_with, lines_with, reading}
-use Rattle.tao_text.specs.Texts.{BreaksAtEnd, BreaksAtLine, FirstBreak, IsScript, IsScriptText, ReadsLine, ReadsLines, SaysScript}
+use Rattle.tao_text.specs.declared.text.TextOf.{TextOf}
+use Rattle.tao_text.specs.Breaks.{takes_step}
+use Rattle.tao_text.specs.Parts.{Item, shape_said}
+use Rattle.tao_text.specs.Scripts.{at_end, fault_at, reading, reading_of, script_in, text_with}
+use Rattle.tao_text.specs.Texts.{BreaksAtEnd, FirstBreak, FirstBreakOf, IsOps, IsScript, IsScriptText, IsStore, IsTextOf, MayNotEnd, SaysScript}
 use Rattle.tao_text.specs.Words.{lines}
-use Rattle.tao_text.proofs.TextDrafts.{IsDraft}
-use Rattle.tao_text.proofs.TextLines.{LineRead, line_breaks, line_goes_on, line_read}
+use Rattle.tao_text.proofs.TextDrafts.{IsDraft, IsDraftAt, IsDraftOf}
+use Rattle.tao_text.proofs.TextNext.{params_at}
+use Rattle.tao_text.proofs.TextWhole.{Length, breaks_at, how_many, line_breaks_text, many_bytes, outcome, the_fault, whole_text}
 
--- what these lines give after those before them; the first has this number
+-- a text that isn't a twin input
+abbrev pub IsOther : TextOf → Type 0
+IsOther text = ¬ (text ≡ TextOf.Twin)
 
-record Says (before : List Item) (number : ℕ) (ls : List (List ℕ)) (script : Script) : Type 0 where
-  items : List Item
-  reads : ReadsLines before number ls items
-  says : SaysScript items script
-  limits : IsScript script
+-- what the end of a text makes of its lines
 
-record Breaks (before : List Item) (number : ℕ) (ls : List (List ℕ)) (fault : TextFault) : Type 0 where
-  front : List (List ℕ)
-  line : List ℕ
-  back : List (List ℕ)
-  lines_are : ls ≡ front ++ line ∷ back
-  items : List Item
-  reads : ReadsLines before number front items
-  number_is : fault.line ≡ number + length front
-  kind : IsFirstFault items line fault.kind
-
-record SaysNothing (before : List Item) (number : ℕ) (ls : List (List ℕ)) (fault : TextFault) : Type 0 where
-  reads : ReadsLines before number ls []
-  number_is : fault.line ≡ number + length ls
-  kind : fault.kind ≡ TextKind.Order
-
-abbrev Outcome : List Item → ℕ → List (List ℕ) → Result Script TextFault → Type 0
-Outcome before number ls (Ok script) = Says before number ls script
-Outcome before number ls (Err fault) = Breaks before number ls fault ⊎ SaysNothing before number ls fault
-
-at_end : (before : List Item) (draft : Option Draft) (number : ℕ) → IsDraft before draft → Outcome before number [] (ended draft number)
-at_end before None number is = inr (record { reads = sym is; number_is = sym (add-zero number); kind = refl })
-at_end before (Some d) number is = record { items = before; reads = refl; says = is.says; limits = is.limits }
-
-one_more : (before : List Item) (number : ℕ) (line : List ℕ) (ls : List (List ℕ)) (items : List Item) (r : Result Script TextFault) → ReadsLine before number line items → Outcome (before ++ items) (number + 1) ls r → Outcome before number (line ∷ ls) r
-one_more before number line ls items (Ok script) here more = record { items = more.items; reads = (items, here, more.reads); says = more.says; limits = more.limits }
-one_more before number line ls items (Err fault) here (inl more) =
-    let at = more.number_is in
-    inl (record {
-      front = line ∷ more.front;
-      line = more.line;
-      back = more.back;
-      lines_are = ap (λ (rest : List (List ℕ)). line ∷ rest) more.lines_are;
-      items = more.items;
-      reads = (items, here, more.reads);
-      number_is = omega arith;
-      kind = more.kind;
-    })
-one_more before number line ls items (Err fault) here (inr more) =
-    let at = more.number_is in
-    inr (record { reads = (items, here, more.reads); number_is = omega arith; kind = more.kind })
-
-behind_line : (before : List Item) (number : ℕ) (line : List ℕ) (ls : List (List ℕ)) (r : Result (Option Draft) TextKind) (rest : Option Draft → Result Script TextFault) → LineRead before number line r
-    → ((items : List Item) (draft : Option Draft) → IsDraft (before ++ items) draft → Outcome (before ++ items) (number + 1) ls (rest draft)) → Outcome before number (line ∷ ls) (after_line number r rest)
-behind_line before number line ls (Ok draft) rest (items, here, is) more = one_more before number line ls items (rest draft) here (more items draft is)
-behind_line before number line ls (Err kind) rest first more =
-    inl (record { front = []; line = line; back = ls; lines_are = refl; items = before; reads = refl; number_is = sym (add-zero number); kind = first })
-
-lines_read : (before : List Item) (draft : Option Draft) (number : ℕ) (ls : List (List ℕ)) → IsDraft before draft → Outcome before number ls (lines_with draft number ls)
-unfolding lines_with
-lines_read before draft number [] is = at_end before draft number is
-lines_read before draft number (line ∷ ls) is =
-    behind_line before number line ls (line_with draft number line) (λ draft. lines_with draft (number + 1) ls) (line_read before draft number line is) (λ items draft is. lines_read (before ++ items) draft (number + 1) ls is)
-
--- after lines without a fault it goes on with the next
-
-record Follows (draft : Option Draft) (number : ℕ) (front back : List (List ℕ)) (items : List Item) : Type 0 where
-  answer : Option Draft
-  is : IsDraft items answer
-  same : lines_with draft number (front ++ back) ≡ lines_with answer (number + length front) back
-
-lines_follow : (before : List Item) (draft : Option Draft) (number : ℕ) (front back : List (List ℕ)) (items : List Item) → IsDraft before draft → ReadsLines before number front items → Follows draft number front back items
-unfolding lines_with
-lines_follow before draft number [] back items is reads =
-    record { answer = draft; is = subst (λ (items : List Item). IsDraft items draft) (sym reads) is; same = ap (λ (n : ℕ). lines_with draft n back) (sym (add-zero number)) }
-lines_follow before draft number (line ∷ front) back items is reads =
-    let here = line_goes_on before draft number line reads.0 is reads.1 in
-    let more = lines_follow (before ++ reads.0) here.answer (number + 1) front back items here.is reads.2 in
-    let long : number + 1 + length front ≡ number + suc (length front) = omega arith in
-    record { answer = more.answer; is = more.is; same = rw here.answers (more.same ∙ ap (λ (n : ℕ). lines_with more.answer n back) long) }
-
--- a text that is read
-
-few_bytes : (bytes : List ℕ) → length bytes ≤ 2 ^ 24 → reading bytes ≡ lines_with None 1 (lines bytes)
-unfolding reading
-few_bytes bytes few = rw (le-leb (length bytes) (2 ^ 24) few) refl
-
-many_bytes : (bytes : List ℕ) → 2 ^ 24 < length bytes → reading bytes ≡ Err (fault_at 0 TextKind.TooLong)
-unfolding reading
-many_bytes bytes many = rw (lt-leb (length bytes) (2 ^ 24) many) refl
-
-data Length (bytes : List ℕ) : Type 0 where
-  Few : length bytes ≤ 2 ^ 24 → Length bytes
-  Many : 2 ^ 24 < length bytes → Length bytes
-
-how_many : (bytes : List ℕ) → Length bytes
-how_many bytes =
-    elim (cases_Bool (nat_le (length bytes) (2 ^ 24))) [
-      | inl few ↦ Few (leb-true (length bytes) (2 ^ 24) few)
-      | inr many ↦ Many (leb-false (length bytes) (2 ^ 24) many)
-    ]
-
-outcome : (bytes : List ℕ) (r : Result Script TextFault) → length bytes ≤ 2 ^ 24 → reading bytes ≡ r → Outcome [] 1 (lines bytes) r
-outcome bytes r few h = subst (Outcome [] 1 (lines bytes)) (sym (few_bytes bytes few) ∙ h) (lines_read [] None 1 (lines bytes) refl)
-
-no_script : (fault : TextFault) (script : Script) → ◌≡◌ {A = Result Script TextFault} (Err fault) (Ok script) → ⊥
-no_script fault script h = cc h
-
-said_by_text : (bytes : List ℕ) (script : Script) → reading bytes ≡ Ok script → (length bytes ≤ 2 ^ 24) × Says [] 1 (lines bytes) script
-said_by_text bytes script h =
-    elim (how_many bytes) [
-      | Few few ↦ (few, outcome bytes (Ok script) few h)
-      | Many many ↦ absurd (no_script (fault_at 0 TextKind.TooLong) script (sym (many_bytes bytes many) ∙ h))
-    ]
-
-pub script_is : (bytes : List ℕ) (script : Script) → reading bytes ≡ Ok script → IsScriptText bytes script
-script_is bytes script h =
-    let is = said_by_text bytes script h in
-    record { few = is.0; items = is.1.items; reads = is.1.reads; says = is.1.says }
-
-pub script_keeps : (bytes : List ℕ) (script : Script) → reading bytes ≡ Ok script → IsScript script
-script_keeps bytes script h = (said_by_text bytes script h).1.limits
-
-same_fault : (fault other : TextFault) → ◌≡◌ {A = Result Script TextFault} (Err fault) (Err other) → other ≡ fault
+pub same_fault : {A : Type 0} (fault other : TextFault) → ◌≡◌ {A = Result A TextFault} (Err fault) (Err other) → other ≡ fault
 same_fault fault other h = cc h
 
-pub break_is : (bytes : List ℕ) (fault : TextFault) → reading bytes ≡ Err fault → FirstBreak bytes fault
-break_is bytes fault h =
+pub no_ok : {A : Type 0} (x : A) (fault : TextFault) → ◌≡◌ {A = Result A TextFault} (Err fault) (Ok x) → ⊥
+no_ok x fault h = cc h
+
+pub no_err : {A : Type 0} (x : A) (fault : TextFault) → ◌≡◌ {A = Result A TextFault} (Ok x) (Err fault) → ⊥
+no_err x fault h = cc h
+
+script_ends : (r : Result (Option Draft × ℕ) TextFault) (script : Script) → at_end script_in r ≡ Ok script → (d : Draft) × (number : ℕ) × (r ≡ Ok (Some d, number)) × (d.script ≡ script)
+script_ends (Ok (None, number)) script h = absurd (no_ok script (fault_at number TextKind.Order) h)
+script_ends (Ok (Some d, number)) script h = (d, number, refl, cc h)
+script_ends (Err fault) script h = absurd (no_ok script fault h)
+
+fault_ends : (r : Result (Option Draft × ℕ) TextFault) (fault : TextFault) → at_end script_in r ≡ Err fault → (r ≡ Err fault) ⊎ ((number : ℕ) × (r ≡ Ok (None, number)) × (fault ≡ fault_at number TextKind.Order))
+fault_ends (Ok (None, number)) fault h = inr (number, refl, same_fault (fault_at number TextKind.Order) fault h)
+fault_ends (Ok (Some d, number)) fault h = absurd (no_err d.script fault h)
+fault_ends (Err other) fault h = inl (ap Err (sym (same_fault other fault h)))
+
+-- the draft of such a text has one play
+one_play : (text : TextOf) (items : List Item) (d : Draft) → IsOther text → IsDraftAt text items d → IsDraftOf text items d
+one_play text items d other (IsDraftAt.in_first none is) = is
+one_play text items d other (IsDraftAt.in_second second some is) = absurd (other is.twin)
+
+record SaidBy (text : TextOf) (bytes : List ℕ) (script : Script) : Type 0 where
+  few : length bytes ≤ 2 ^ 24
+  is : IsTextOf text bytes script
+  d : Draft
+  draft : IsDraftOf text is.items d
+  same : d.script ≡ script
+
+said_by : (text : TextOf) (bytes : List ℕ) (script : Script) → IsOther text → reading_of text bytes ≡ Ok script → SaidBy text bytes script
+said_by text bytes script other h =
+    let ends = script_ends (text_with text bytes) script h in
     elim (how_many bytes) [
-      | Few few ↦ elim (outcome bytes (Err fault) few h) [
-        | inl breaks ↦
-            let at = breaks.number_is in
-            inr (inl (record { few = few; front = breaks.front; line = breaks.line; back = breaks.back; lines_are = breaks.lines_are; items = breaks.items; reads = breaks.reads; number = omega arith; kind = breaks.kind }))
-        | inr none ↦
-            let at = none.number_is in
-            inr (inr (record { few = few; reads = none.reads; number = omega arith; kind = none.kind }))
+      | Length.Few few ↦
+          let says = outcome text bytes (Ok (Some ends.0, ends.1)) few ends.2 in
+          let is = one_play text says.items ends.0 other says.is in
+          record { few = few; is = record { few = few; items = says.items; reads = says.reads; says = subst (SaysScript says.items) ends.3 is.says }; d = ends.0; draft = is; same = ends.3 }
+      | Length.Many many ↦ absurd (no_ok (Some ends.0, ends.1) (fault_at 0 TextKind.TooLong) (sym (many_bytes text bytes many) ∙ ends.2))
+    ]
+
+pub text_is : (text : TextOf) (bytes : List ℕ) (script : Script) → IsOther text → reading_of text bytes ≡ Ok script → IsTextOf text bytes script
+text_is text bytes script other h = (said_by text bytes script other h).is
+
+-- limits
+
+pub text_keeps : (text : TextOf) (bytes : List ℕ) (script : Script) → IsOther text → reading_of text bytes ≡ Ok script → IsScript script
+text_keeps text bytes script other h = let said = said_by text bytes script other h in subst IsScript said.same said.draft.limits
+
+pub ops_keep : (bytes : List ℕ) (script : Script) → reading_of TextOf.Ops bytes ≡ Ok script → IsOps script
+ops_keep bytes script h =
+    let said = said_by TextOf.Ops bytes script (λ twin. absurd cc) h in
+    subst IsOps said.same (record { limits = said.draft.limits; steps = said.draft.steps_taken; seal = said.draft.says.seal; reopen = said.draft.says.reopen })
+
+no_steps : (steps : List Step) → All (λ step. IsTrue (takes_step TextOf.Store step.what)) steps → steps ≡ []
+no_steps [] all = refl
+no_steps (step ∷ steps) all = absurd (false≢true (All-head (λ step. IsTrue (takes_step TextOf.Store step.what)) step steps all))
+
+no_tape_taken : (tape : Option (List ℕ)) → IfSome tape (λ tape. false ≡ true) → tape ≡ None
+no_tape_taken None h = refl
+no_tape_taken (Some tape) h = absurd (false≢true h)
+
+pub store_keeps : (bytes : List ℕ) (script : Script) → reading_of TextOf.Store bytes ≡ Ok script → IsStore script
+store_keeps bytes script h =
+    let said = said_by TextOf.Store bytes script (λ twin. absurd cc) h in
+    subst IsStore said.same (record {
+      limits = said.draft.limits;
+      steps = no_steps said.d.script.steps said.draft.steps_taken;
+      tape = no_tape_taken said.d.script.tape said.draft.tape_taken;
+      seal = said.draft.says.seal;
+      reopen = said.draft.says.reopen;
+    })
+
+-- the first fault
+
+none_ends : (text : TextOf) (items : List Item) → IsOther text → items ≡ [] → MayNotEnd text items
+none_ends TextOf.Script items other none = none
+none_ends TextOf.Twin items other none = absurd (other refl)
+none_ends TextOf.Ops items other none = none
+none_ends TextOf.Store items other none = none
+
+ends_empty : (text : TextOf) (items : List Item) → IsOther text → MayNotEnd text items → items ≡ []
+ends_empty TextOf.Script items other none = none
+ends_empty TextOf.Twin items other none = absurd (other refl)
+ends_empty TextOf.Ops items other none = none
+ends_empty TextOf.Store items other none = none
+
+pub text_breaks : (text : TextOf) (bytes : List ℕ) (fault : TextFault) → IsOther text → reading_of text bytes ≡ Err fault → FirstBreakOf text bytes fault
+text_breaks text bytes fault other h =
+    elim (how_many bytes) [
+      | Length.Few few ↦ elim (fault_ends (text_with text bytes) fault h) [
+        | inl at ↦ inr (inl (breaks_at text bytes fault few at))
+        | inr end ↦
+            let says = outcome text bytes (Ok (None, end.0)) few end.1 in
+            let last = says.last_is in
+            let line : fault.line ≡ end.0 = ap (λ (f : TextFault). f.line) end.2 in
+            inr (inr (record { few = few; items = says.items; reads = says.reads; cut = none_ends text says.items other says.is; number = omega arith; kind = ap (λ (f : TextFault). f.kind) end.2 }))
       ]
-      | Many many ↦ inl (many, same_fault (fault_at 0 TextKind.TooLong) fault (sym (many_bytes bytes many) ∙ h))
+      | Length.Many many ↦ inl (many, same_fault (fault_at 0 TextKind.TooLong) fault (sym (ap (at_end script_in) (many_bytes text bytes many)) ∙ h))
     ]
 
 -- what is given for the text of a script, and for one with a fault
@@ -166,7 +142,7 @@ same_script : {p p' : Shape} {t t' : ℕ} {f f' : Option ℕ} {k k' : List ℕ} 
     → p ≡ p' → t ≡ t' → f ≡ f' → k ≡ k' → s ≡ s' → r ≡ r' → w ≡ w' → l ≡ l' → st ≡ st' → script_of p t f k s r w l st ≡ script_of p' t' f' k' s' r' w' l' st'
 same_script params tree_line form_line key seal reopen tape loads steps = cc
 
-one_script : (items : List Item) (script other : Script) → SaysScript items script → SaysScript items other → script ≡ other
+pub one_script : (items : List Item) (script other : Script) → SaysScript items script → SaysScript items other → script ≡ other
 one_script items script other says again =
     same_script
     (same_Some script.params other.params (says.params ∙ sym again.params))
@@ -179,47 +155,37 @@ one_script items script other says again =
     (says.loads ∙ sym again.loads)
     (says.steps ∙ sym again.steps)
 
-ends_with : (items : List Item) (draft : Option Draft) (number : ℕ) (script : Script) → IsDraft items draft → SaysScript items script → ended draft number ≡ Ok script
-ends_with items None number script is says = absurd (no_shape script.params (says.params ∙ ap shape_said is))
-ends_with items (Some d) number script is says = ap Ok (one_script items d.script script is.says says)
+ends_with : (text : TextOf) (items : List Item) (draft : Option Draft) (number : ℕ) (script : Script) → IsOther text → IsDraft text items draft → SaysScript items script → script_in draft number ≡ Ok script
+ends_with text items None number script other is says = absurd (no_shape script.params (says.params ∙ ap shape_said is))
+ends_with text items (Some d) number script other is says = ap Ok (one_script items d.script script (one_play text items d other is).says says)
 
-whole_text : (bytes : List ℕ) (items : List Item) → length bytes ≤ 2 ^ 24 → ReadsLines [] 1 (lines bytes) items → (draft : Option Draft) × IsDraft items draft × (reading bytes ≡ ended draft (1 + length (lines bytes)))
-unfolding lines_with
-whole_text bytes items few reads =
-    let follows = lines_follow [] None 1 (lines bytes) [] items refl reads in
-    (follows.answer, follows.is, few_bytes bytes few ∙ ap (lines_with None 1) (sym (append-nil (lines bytes))) ∙ follows.same)
+pub text_reads : (text : TextOf) (bytes : List ℕ) (script : Script) → IsOther text → IsTextOf text bytes script → reading_of text bytes ≡ Ok script
+text_reads text bytes script other is =
+    let read = whole_text text bytes is.items is.few is.reads in
+    ap (at_end script_in) read.2 ∙ ends_with text is.items read.0 (1 + length (lines bytes)) script other read.1 is.says
+
+ends_none : (text : TextOf) (items : List Item) (draft : Option Draft) (number : ℕ) → IsDraft text items draft → items ≡ [] → script_in draft number ≡ Err (fault_at number TextKind.Order)
+ends_none text items None number is none = refl
+ends_none text items (Some d) number is none = absurd (no_shape d.script.params (params_at text items d is ∙ ap shape_said none))
+
+end_breaks : (text : TextOf) (bytes : List ℕ) (fault : TextFault) → IsOther text → BreaksAtEnd text bytes fault → reading_of text bytes ≡ Err fault
+end_breaks text bytes fault other is =
+    let read = whole_text text bytes is.items is.few is.reads in
+    let number = is.number in
+    ap (at_end script_in) read.2 ∙ ends_none text is.items read.0 (1 + length (lines bytes)) read.1 (ends_empty text is.items other is.cut) ∙ the_fault fault (1 + length (lines bytes)) TextKind.Order (omega arith) (sym is.kind)
+
+pub text_break_read : (text : TextOf) (bytes : List ℕ) (fault : TextFault) → IsOther text → FirstBreakOf text bytes fault → reading_of text bytes ≡ Err fault
+text_break_read text bytes fault other (inl long) = ap (at_end script_in) (many_bytes text bytes long.0) ∙ ap Err (sym long.1)
+text_break_read text bytes fault other (inr (inl line)) = ap (at_end script_in) (line_breaks_text text bytes fault line)
+text_break_read text bytes fault other (inr (inr end)) = end_breaks text bytes fault other end
+
+-- the same for scripts
+
+pub is_other : IsOther TextOf.Script
+is_other twin = absurd cc
 
 pub script_reads : (bytes : List ℕ) (script : Script) → IsScriptText bytes script → reading bytes ≡ Ok script
-script_reads bytes script is =
-    let read = whole_text bytes is.items is.few is.reads in
-    read.2 ∙ ends_with is.items read.0 (1 + length (lines bytes)) script read.1 is.says
-
-ends_none : (draft : Option Draft) (number : ℕ) → IsDraft [] draft → ended draft number ≡ Err (fault_at number TextKind.Order)
-ends_none None number is = refl
-ends_none (Some d) number is = absurd (no_shape d.script.params is.says.params)
-
-the_fault : (fault : TextFault) (line : ℕ) (kind : TextKind) → line ≡ fault.line → kind ≡ fault.kind → ◌≡◌ {A = Result Script TextFault} (Err (fault_at line kind)) (Err fault)
-the_fault fault line kind at is = ap₂ (λ (line : ℕ) (kind : TextKind). Err (record { line = line; kind = kind })) at is
-
-end_breaks : (bytes : List ℕ) (fault : TextFault) → BreaksAtEnd bytes fault → reading bytes ≡ Err fault
-end_breaks bytes fault is =
-    let read = whole_text bytes [] is.few is.reads in
-    let number = is.number in
-    read.2 ∙ ends_none read.0 (1 + length (lines bytes)) read.1 ∙ the_fault fault (1 + length (lines bytes)) TextKind.Order (omega arith) (sym is.kind)
-
-line_breaks_text : (bytes : List ℕ) (fault : TextFault) → BreaksAtLine bytes fault → reading bytes ≡ Err fault
-unfolding lines_with
-line_breaks_text bytes fault is =
-    let follows = lines_follow [] None 1 is.front (is.line ∷ is.back) is.items refl is.reads in
-    let number = is.number in
-    let here = line_breaks is.items follows.answer (1 + length is.front) is.line fault.kind follows.is is.kind in
-    few_bytes bytes is.few
-    ∙ ap (lines_with None 1) is.lines_are
-    ∙ follows.same
-    ∙ ap (λ (r : Result (Option Draft) TextKind). after_line (1 + length is.front) r (λ next. lines_with next (1 + length is.front + 1) is.back)) here
-    ∙ the_fault fault (1 + length is.front) fault.kind (omega arith) refl
+script_reads bytes script is = text_reads TextOf.Script bytes script is_other is
 
 pub breaks_read : (bytes : List ℕ) (fault : TextFault) → FirstBreak bytes fault → reading bytes ≡ Err fault
-breaks_read bytes fault (inl long) = many_bytes bytes long.0 ∙ ap Err (sym long.1)
-breaks_read bytes fault (inr (inl line)) = line_breaks_text bytes fault line
-breaks_read bytes fault (inr (inr end)) = end_breaks bytes fault end
+breaks_read bytes fault breaks = text_break_read TextOf.Script bytes fault is_other breaks

@@ -11,7 +11,7 @@ use Rattle.std.proofs.lemmas.List.Sums.{sum_by_push}
 use Rattle.std.proofs.lemmas.Option.{slice_get-get_or}
 use Rattle.tao_base.specs.declared.storage.Entry.{Entry}
 use Rattle.tao_text.specs.declared.said.Said.{Said}
-use Rattle.tao_text.specs.Breaks.{Item, first_line}
+use Rattle.tao_text.specs.Parts.{Item, first_line}
 use Rattle.tao_text.specs.Scripts.{is_above}
 
 -- a line that says something, with its number

@@ -10,6 +10,7 @@ use Rattle.tao_text.specs.declared.faults.TextKind.{TextKind}
 use Rattle.tao_text.specs.declared.faults.TextKind.TheVariants.{NotText, Word}
 use Rattle.tao_text.specs.declared.said.Said.{Said}
 use Rattle.tao_text.specs.declared.script.What.{What}
+use Rattle.tao_text.specs.declared.text.TextOf.{TextOf}
 use Rattle.tao_text.specs.Values.{number_of, hex_of}
 use Rattle.tao_text.specs.Words.{words}
 
@@ -48,10 +49,10 @@ unfoldable pub value_line : List (List ℕ) → Result (List ℕ) TextKind
 value_line (hex ∷ []) = hex_of hex
 value_line _ = Err Word
 
--- `seal`
-unfoldable pub seal_line : List (List ℕ) → Result Said TextKind
-seal_line [] = Ok Said.Seal
-seal_line (word ∷ words) = Err Word
+-- what a word says that stands alone, as `seal`
+unfoldable pub alone : {A : Type 0} → A → List (List ℕ) → Result A TextKind
+alone x [] = Ok x
+alone x (word ∷ words) = Err Word
 
 -- the numbers that the words are, or the fault Number if one isn't
 unfoldable pub numbers_of : List (List ℕ) → Result (List ℕ) TextKind
@@ -145,27 +146,50 @@ step_behind name words =
     else if bytes_eq name (codes "ack") then (number_line words >>= λ version. Ok (What.Ack version))
     else Err Word
 
--- a line, from its first word and those after it
+-- after `op`: `read ID`, `write ID HEX` or `pad`
+unfoldable pub op_line : List (List ℕ) → Result Op TextKind
+op_line [] = Err Word
+op_line (name ∷ words) =
+    if bytes_eq name (codes "read") then (number_line words >>= λ id. Ok (Op.Read id))
+    else if bytes_eq name (codes "write") then (load_line words >>= λ entry. Ok (Op.Write entry.id entry.value))
+    else if bytes_eq name (codes "pad") then alone Op.Pad words
+    else Err Word
+
+-- a line that all texts know, from its first word and those after it
 unfoldable pub said_behind : List ℕ → List (List ℕ) → Result Said TextKind
 said_behind name words =
     if bytes_eq name (codes "tree") then tree_line words
     else if bytes_eq name (codes "form") then (form_line words >>= λ form. Ok (Said.Form form))
     else if bytes_eq name (codes "key") then (value_line words >>= λ bytes. Ok (Said.Key bytes))
-    else if bytes_eq name (codes "seal") then seal_line words
+    else if bytes_eq name (codes "seal") then alone Said.Seal words
     else if bytes_eq name (codes "reopen") then (value_line words >>= λ bytes. Ok (Said.Reopen bytes))
     else if bytes_eq name (codes "tape") then (tape_line words >>= λ tape. Ok (Said.Tape tape))
     else if bytes_eq name (codes "load") then (load_line words >>= λ entry. Ok (Said.Load entry))
     else (step_behind name words >>= λ what. Ok (Said.Step what))
+
+-- a line of a twin input
+unfoldable pub twin_behind : List ℕ → List (List ℕ) → Result Said TextKind
+twin_behind name words =
+    if bytes_eq name (codes "twin") then alone Said.Twin words
+    else if bytes_eq name (codes "op") then (op_line words >>= λ op. Ok (Said.Op op))
+    else said_behind name words
+
+-- a line of a kind of text
+unfoldable pub line_behind : TextOf → List ℕ → List (List ℕ) → Result Said TextKind
+line_behind TextOf.Script name words = said_behind name words
+line_behind TextOf.Twin name words = twin_behind name words
+line_behind TextOf.Ops name words = said_behind name words
+line_behind TextOf.Store name words = said_behind name words
 
 -- all bytes are printable
 unfoldable pub is_text : List ℕ → Bool
 is_text line = list_all (λ b. nat_le 32 b && nat_le b 126) line
 
 -- None without words or for a comment
-abbrev pub words_said : List (List ℕ) → Result (Option Said) TextKind
-words_said [] = Ok None
-words_said (name ∷ words) = if slice_index name 0 == 35 then Ok None else (said_behind name words >>= λ said. Ok (Some said))
+abbrev pub words_said : TextOf → List (List ℕ) → Result (Option Said) TextKind
+words_said text [] = Ok None
+words_said text (name ∷ words) = if slice_index name 0 == 35 then Ok None else (line_behind text name words >>= λ said. Ok (Some said))
 
 -- what a line says, unless it is skipped
-unfoldable pub line_said : List ℕ → Result (Option Said) TextKind
-line_said line = if is_text line then words_said (words line) else Err NotText
+unfoldable pub line_said : TextOf → List ℕ → Result (Option Said) TextKind
+line_said text line = if is_text line then words_said text (words line) else Err NotText

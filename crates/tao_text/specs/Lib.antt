@@ -7,5 +7,6 @@ pub mod Kinds
 pub mod Forms
 pub mod Limits
 pub mod Scripts
+pub mod Parts
 pub mod Breaks
 pub mod Texts

@@ -8,6 +8,7 @@ use Rattle.tao_base.specs.declared.storage.Entry.{Entry}
 use Rattle.tao_text.specs.declared.faults.TextKind.{TextKind}
 use Rattle.tao_text.specs.declared.faults.TextKind.TheVariants.{Length, Range}
 use Rattle.tao_text.specs.declared.script.What.{What}
+use Rattle.tao_text.specs.Forms.{◌>>=◌}
 
 -- parameters, or the fault Range for any of their limits
 abbrev pub or_range : Result Shape ParamFault → Result Shape TextKind
@@ -22,11 +23,15 @@ params_of l z b n k = or_range (shape_of l z b n k)
 unfoldable pub entry_fits : Shape → Entry → Result Unit TextKind
 entry_fits s entry = if length entry.value == s.b then (if nat_lt entry.id s.n then Ok tt else Err Range) else Err Length
 
--- a write's value is as long as a block, else Length; and client and id are in range, else Range
+-- a write's value is as long as a block, else Length; and an id is below n, else Range; a pad has no block
+unfoldable pub op_fits : Shape → Op → Result Unit TextKind
+op_fits s (Op.Read id) = if nat_lt id s.n then Ok tt else Err Range
+op_fits s (Op.Write id value) = if length value == s.b then (if nat_lt id s.n then Ok tt else Err Range) else Err Length
+op_fits s Op.Pad = Ok tt
+
+-- the same, and a client is at most 63, else Range
 unfoldable pub call_fits : Shape → ℕ → Op → Result Unit TextKind
-call_fits s client (Op.Read id) = if nat_le client 63 && nat_lt id s.n then Ok tt else Err Range
-call_fits s client (Op.Write id value) = if length value == s.b then (if nat_le client 63 && nat_lt id s.n then Ok tt else Err Range) else Err Length
-call_fits s client Op.Pad = if nat_le client 63 then Ok tt else Err Range
+call_fits s client op = op_fits s op >>= λ fits. if nat_le client 63 then Ok tt else Err Range
 
 -- the same for a step, and its depth or node is in range, else Range; a fetch or a version may be any number
 unfoldable pub step_fits : Shape → What → Result Unit TextKind

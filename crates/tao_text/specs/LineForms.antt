@@ -1,5 +1,6 @@
 -- The forms of lines, by their words.
-use Rattle.std.specs.Prelude.{◌≡◌, ℕ, List, [], ◌∷◌, codes, ⊤}
+use Rattle.std.specs.Prelude.{◌≡◌, ℕ, List, [], ◌∷◌, ◌++◌, codes, ⊤}
+use Rattle.tao_text.specs.declared.text.TextOf.{TextOf}
 
 -- one place in a form
 pub data Part : Type 0 where
@@ -12,9 +13,9 @@ pub data Part : Type 0 where
   -- one or more numbers, to the end of the line
   TheNumbers : Part
 
--- all line forms
-unfoldable pub line_forms : List (List Part)
-line_forms =
+-- the forms of the lines that all texts know
+unfoldable pub script_forms : List (List Part)
+script_forms =
     (Fixed (codes "tree") ∷ ANumber ∷ ANumber ∷ ANumber ∷ ANumber ∷ ANumber ∷ [])
     ∷ (Fixed (codes "form") ∷ Fixed (codes "1") ∷ [])
     ∷ (Fixed (codes "form") ∷ Fixed (codes "2") ∷ [])
@@ -37,6 +38,22 @@ line_forms =
     ∷ (Fixed (codes "put") ∷ ANumber ∷ ANumber ∷ [])
     ∷ (Fixed (codes "ack") ∷ ANumber ∷ [])
     ∷ []
+
+-- the forms that only a twin input has
+unfoldable pub twin_forms : List (List Part)
+twin_forms =
+    (Fixed (codes "twin") ∷ [])
+    ∷ (Fixed (codes "op") ∷ Fixed (codes "read") ∷ ANumber ∷ [])
+    ∷ (Fixed (codes "op") ∷ Fixed (codes "write") ∷ ANumber ∷ AValue ∷ [])
+    ∷ (Fixed (codes "op") ∷ Fixed (codes "pad") ∷ [])
+    ∷ []
+
+-- all line forms of a kind of text
+abbrev pub line_forms : TextOf → List (List Part)
+line_forms TextOf.Script = script_forms
+line_forms TextOf.Twin = script_forms ++ twin_forms
+line_forms TextOf.Ops = script_forms
+line_forms TextOf.Store = script_forms
 
 -- the words match the places of the form one by one, the fixed words exactly
 abbrev pub IsOfForm : List (List ℕ) → List Part → Type 0

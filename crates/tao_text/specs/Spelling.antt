@@ -9,6 +9,7 @@ use Rattle.tao_base.specs.declared.parameters.Form.TheVariants.{One, Two, Turn}
 use Rattle.tao_base.specs.declared.storage.Entry.{Entry}
 use Rattle.tao_text.specs.declared.said.Said.{Said}
 use Rattle.tao_text.specs.declared.script.What.{What}
+use Rattle.tao_text.specs.declared.text.TextOf.{TextOf}
 
 -- the word is a number below 2 ^ 32 in decimal
 abbrev pub IsNumber : List ℕ → ℕ → Type 0
@@ -49,16 +50,24 @@ SpellsStep words (What.Put version None) = (words ≡ codes "put" ∷ decimal ve
 SpellsStep words (What.Put version (Some node)) = (words ≡ codes "put" ∷ decimal version ∷ decimal node ∷ []) × (version < 2 ^ 32) × (node < 2 ^ 32)
 SpellsStep words (What.Ack version) = (words ≡ codes "ack" ∷ decimal version ∷ []) × (version < 2 ^ 32)
 
--- a line
-abbrev pub Says : List (List ℕ) → Said → Type 0
-Says words (Said.Tree l z b n k) = (words ≡ codes "tree" ∷ map decimal (l ∷ z ∷ b ∷ n ∷ k ∷ [])) × All (λ m. m < 2 ^ 32) (l ∷ z ∷ b ∷ n ∷ k ∷ [])
-Says words (Said.Form form) = words ≡ codes "form" ∷ form_word form ∷ []
-Says words (Said.Key bytes) = (hex : List ℕ) × (words ≡ codes "key" ∷ hex ∷ []) × IsHex hex bytes
-Says words Said.Seal = words ≡ codes "seal" ∷ []
-Says words (Said.Reopen bytes) = (hex : List ℕ) × (words ≡ codes "reopen" ∷ hex ∷ []) × IsHex hex bytes
-Says words (Said.Tape tape) = (words ≡ codes "tape" ∷ map decimal tape) × IsTape tape
-Says words (Said.Load entry) = (rest : List (List ℕ)) × (words ≡ codes "load" ∷ rest) × SpellsLoad rest entry
-Says words (Said.Step what) = SpellsStep words what
+-- the words after `op` that give an operation
+abbrev pub SpellsOp : List (List ℕ) → Op → Type 0
+SpellsOp words (Op.Read id) = (words ≡ codes "read" ∷ decimal id ∷ []) × (id < 2 ^ 32)
+SpellsOp words (Op.Write id value) = (hex : List ℕ) × (words ≡ codes "write" ∷ decimal id ∷ hex ∷ []) × (id < 2 ^ 32) × IsHex hex value
+SpellsOp words Op.Pad = words ≡ codes "pad" ∷ []
+
+-- a line; `twin` and `op` are known in a twin input alone
+abbrev pub Says : TextOf → List (List ℕ) → Said → Type 0
+Says text words (Said.Tree l z b n k) = (words ≡ codes "tree" ∷ map decimal (l ∷ z ∷ b ∷ n ∷ k ∷ [])) × All (λ m. m < 2 ^ 32) (l ∷ z ∷ b ∷ n ∷ k ∷ [])
+Says text words (Said.Form form) = words ≡ codes "form" ∷ form_word form ∷ []
+Says text words (Said.Key bytes) = (hex : List ℕ) × (words ≡ codes "key" ∷ hex ∷ []) × IsHex hex bytes
+Says text words Said.Seal = words ≡ codes "seal" ∷ []
+Says text words (Said.Reopen bytes) = (hex : List ℕ) × (words ≡ codes "reopen" ∷ hex ∷ []) × IsHex hex bytes
+Says text words (Said.Tape tape) = (words ≡ codes "tape" ∷ map decimal tape) × IsTape tape
+Says text words (Said.Load entry) = (rest : List (List ℕ)) × (words ≡ codes "load" ∷ rest) × SpellsLoad rest entry
+Says text words (Said.Step what) = SpellsStep words what
+Says text words Said.Twin = (text ≡ TextOf.Twin) × (words ≡ codes "twin" ∷ [])
+Says text words (Said.Op op) = (text ≡ TextOf.Twin) × ((rest : List (List ℕ)) × (words ≡ codes "op" ∷ rest) × SpellsOp rest op)
 
 -- a word: printable bytes other than a space
 pub record IsWord (word : List ℕ) : Type 0 where

@@ -1,21 +1,22 @@
-//! Parses single lines of a script, without their context.
+//! Parses single lines of a text, without their context.
 ghost use Rattle.std.specs.Prelude.{◌≡◌};
-ghost use Rattle.tao_text.specs.Forms.{call_line, form_line, is_text, line_said, load_line, number_line, numbers_of, put_line, read_line, read_words, said_behind, seal_line, step_behind, tape_line, tree_line, value_line, write_words, pad_words};
+ghost use Rattle.tao_text.specs.Forms.{alone, call_line, form_line, is_text, line_behind, line_said, load_line, number_line, numbers_of, op_line, pad_words, put_line, read_line, read_words, said_behind, step_behind, tape_line, tree_line, twin_behind, value_line, write_words};
 ghost use Rattle.tao_text.specs.Values.{Gives};
 ghost use Rattle.tao_text.specs.Words.{words};
 
 use crate::faults::TextKind;
 use crate::said::Said;
 use crate::script::What;
+use crate::text::TextOf;
 use crate::values::{hex_of, number_of};
 use crate::words::{next_word, no_more_words};
 use std::alloc::Global;
 use tao_base::{Block, Entry, Form, Numbers, Op};
 
 #[tactic(auto, unfolding(crate::specs::Forms::line_said))]
-/// What a line says: None for a blank line or a comment.
-pub(crate) fn line_said(alloc: Global, line: &[u8]) -> Result<Option<Said>, TextKind>
-    ensures { Gives (λ said. said) result (line_said line.now) }
+/// What a line of such a text says: None for a blank line or a comment.
+pub(crate) fn line_said(alloc: Global, text: TextOf, line: &[u8]) -> Result<Option<Said>, TextKind>
+    ensures { Gives (λ said. said) result (line_said text line.now) }
 {
     if !is_text(line) {
         return Err(TextKind::NotText);
@@ -26,7 +27,7 @@ pub(crate) fn line_said(alloc: Global, line: &[u8]) -> Result<Option<Said>, Text
     if name.first() == Some(&b'#') {
         return Ok(None);
     }
-    Ok(Some(said_behind(alloc, name, rest)?))
+    Ok(Some(line_behind(alloc, text, name, rest)?))
 }
 
 #[tactic(auto, unfolding(crate::specs::Forms::is_text))]
@@ -37,8 +38,33 @@ pub fn is_text(line: &[u8]) -> bool
     line.iter().all(|byte| b' ' <= *byte && *byte <= b'~')
 }
 
-#[tactic(auto, unfolding(crate::specs::Forms::said_behind))]
+#[tactic(auto, unfolding(crate::specs::Forms::line_behind))]
 // Parses a line by its first word; `rest` is what follows it.
+fn line_behind(alloc: Global, text: TextOf, name: &[u8], rest: &[u8]) -> Result<Said, TextKind>
+    ensures { Gives (λ said. said) result (line_behind text name.now (words rest.now)) }
+{
+    match text {
+        TextOf::Twin => twin_behind(alloc, name, rest),
+        TextOf::Script | TextOf::Ops | TextOf::Store => said_behind(alloc, name, rest),
+    }
+}
+
+#[tactic(auto, unfolding(crate::specs::Forms::twin_behind))]
+// Parses a line of a twin input.
+fn twin_behind(alloc: Global, name: &[u8], rest: &[u8]) -> Result<Said, TextKind>
+    ensures { Gives (λ said. said) result (twin_behind name.now (words rest.now)) }
+{
+    if name == b"twin".as_slice() {
+        return alone(Said::Twin, rest);
+    }
+    if name == b"op".as_slice() {
+        return Ok(Said::Op(op_line(alloc, rest)?));
+    }
+    said_behind(alloc, name, rest)
+}
+
+#[tactic(auto, unfolding(crate::specs::Forms::said_behind))]
+// Parses a line that all texts know.
 fn said_behind(alloc: Global, name: &[u8], rest: &[u8]) -> Result<Said, TextKind>
     ensures { Gives (λ said. said) result (said_behind name.now (words rest.now)) }
 {
@@ -52,7 +78,7 @@ fn said_behind(alloc: Global, name: &[u8], rest: &[u8]) -> Result<Said, TextKind
         return Ok(Said::Key(value_line(alloc, rest)?));
     }
     if name == b"seal".as_slice() {
-        return seal_line(rest);
+        return alone(Said::Seal, rest);
     }
     if name == b"reopen".as_slice() {
         return Ok(Said::Reopen(value_line(alloc, rest)?));
@@ -143,13 +169,33 @@ fn value_line(alloc: Global, line: &[u8]) -> Result<Block, TextKind>
     hex_of(alloc, value)
 }
 
-#[tactic(auto, unfolding(crate::specs::Forms::seal_line))]
-// `seal`
-fn seal_line(line: &[u8]) -> Result<Said, TextKind>
-    ensures { result ≡ seal_line (words line.now) }
+#[tactic(auto, unfolding(crate::specs::Forms::alone))]
+// What a word says that stands alone: `seal` or `twin`.
+fn alone(said: Said, line: &[u8]) -> Result<Said, TextKind>
+    ensures { result ≡ alone said (words line.now) }
 {
     no_more_words(line)?;
-    Ok(Said::Seal)
+    Ok(said)
+}
+
+#[tactic(auto, unfolding(crate::specs::Forms::op_line, crate::specs::Forms::alone))]
+// What follows `op`: `read ID`, `write ID HEX` or `pad`
+fn op_line(alloc: Global, line: &[u8]) -> Result<Op, TextKind>
+    ensures { Gives (λ op. op) result (op_line (words line.now)) }
+{
+    let (name, rest) = next_word(line)?;
+    if name == b"read".as_slice() {
+        return Ok(Op::Read(number_line(rest)?));
+    }
+    if name == b"write".as_slice() {
+        let Entry { id, value } = load_line(alloc, rest)?;
+        return Ok(Op::Write(id, value));
+    }
+    if name == b"pad".as_slice() {
+        no_more_words(rest)?;
+        return Ok(Op::Pad);
+    }
+    Err(TextKind::Word)
 }
 
 #[tactic(auto, unfolding(crate::specs::Forms::tape_line))]

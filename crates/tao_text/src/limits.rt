@@ -1,6 +1,6 @@
 //! Checks what a script says against its parameters.
 ghost use Rattle.std.specs.Prelude.{◌≡◌};
-ghost use Rattle.tao_text.specs.Limits.{call_fits, entry_fits, params_of, step_fits};
+ghost use Rattle.tao_text.specs.Limits.{call_fits, entry_fits, op_fits, params_of, step_fits};
 
 use crate::faults::TextKind;
 use crate::script::What;
@@ -53,6 +53,19 @@ pub(crate) fn step_fits(params: &Params, what: &What) -> Result<(), TextKind>
 fn call_fits(params: &Params, client: u32, op: &Op) -> Result<(), TextKind>
     ensures { result ≡ call_fits params.now client op.now }
 {
+    op_fits(params, op)?;
+    if client <= MOST_CLIENT {
+        Ok(())
+    } else {
+        Err(TextKind::Range)
+    }
+}
+
+#[tactic(auto, unfolding(crate::specs::Limits::op_fits))]
+/// Checks an operation against the parameters.
+pub(crate) fn op_fits(params: &Params, op: &Op) -> Result<(), TextKind>
+    ensures { result ≡ op_fits params.now op.now }
+{
     if let Op::Write(_, value) = op {
         if value.as_slice().len() != params.b() as usize {
             return Err(TextKind::Length);
@@ -62,9 +75,5 @@ fn call_fits(params: &Params, client: u32, op: &Op) -> Result<(), TextKind>
         Op::Read(id) | Op::Write(id, _) => *id < params.n(),
         Op::Pad => true,
     };
-    if known && client <= MOST_CLIENT {
-        Ok(())
-    } else {
-        Err(TextKind::Range)
-    }
+    if known { Ok(()) } else { Err(TextKind::Range) }
 }

@@ -1,7 +1,7 @@
 //! What a single line says, without its context.
 
 use crate::script::What;
-use tao_base::{Block, Entry, Form, Image, Numbers};
+use tao_base::{Block, Entry, Form, Image, Numbers, Op};
 
 /// A parsed line, by its first word.
 #[derive(Drop)]
@@ -22,4 +22,8 @@ pub(crate) enum Said {
     Load(Entry),
     /// A line `do`, `a`, `read`, `done`, `put` or `ack`.
     Step(What),
+    /// `twin`
+    Twin,
+    /// `op read ID`, `op write ID HEX` or `op pad`
+    Op(Op),
 }

@@ -2,7 +2,7 @@
 ghost use Rattle.std.specs.Prelude.{Some, codes};
 
 use std::fmt;
-use tao_base::{Entries, Image, Items, Numbers, Op, Params};
+use tao_base::{Entries, Image, Items, Numbers, Op, Ops, Params};
 
 /// A store and what is done with it: its parameters, the key of its tape, the tape's words if the text lists them in place of the key's,
 /// the first values of blocks by rising ids, and the steps.
@@ -48,6 +48,14 @@ pub enum What {
     Put(u32, Option<u32>),
     /// The acknowledgement of this write-back reaches the proxy.
     Ack(u32),
+}
+
+/// The input of `twin`: a script, and what the second play loads and does on its schedule, one operation for each arrival of the script.
+#[derive(Debug, Drop)]
+pub struct Twins {
+    pub first: Script,
+    pub loads: Entries,
+    pub ops: Ops,
 }
 
 // The key is not shown.

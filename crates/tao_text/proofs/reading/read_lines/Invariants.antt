@@ -5,7 +5,7 @@ use Rattle.tao_text.proofs.reading.read_lines.Given as goal
 
 abbrev pub invariant-loop-line : goal.invariant-loop-line
 invariant-loop-line l = record {
-  same : lines_with l.draft l.number (lines l.rest) ≡ lines_with None 1 (lines l.text);
+  same : lines_with l.text l.draft l.number (lines l.rest) ≡ lines_with l.text None 1 (lines l.bytes);
   few : l.number + length l.rest ≤ 2 ^ 24 + 1;
 }
 
