@@ -1,3 +1,5 @@
+mod others;
+
 use crate::{
     Script, Step, TextFault, TextKind, What, begin_line, end_line, is_hex, is_text, line_hex,
     line_words, next_line, next_word, no_more_words, number_of, push_hex, push_number,
@@ -98,19 +100,23 @@ fn spell_step(out: &mut Image, step: &Step) -> Result<(), NoMemory> {
 fn spell_call(out: &mut Image, name: &str, client: u32, op: &Op) -> Result<(), NoMemory> {
     begin_line(out, name)?;
     push_number(out, u64::from(client))?;
+    spell_op(out, op)?;
+    end_line(out)
+}
+
+fn spell_op(out: &mut Image, op: &Op) -> Result<(), NoMemory> {
     match op {
         Op::Read(id) => {
             push_word(out, "read")?;
-            push_number(out, u64::from(*id))?;
+            push_number(out, u64::from(*id))
         }
         Op::Write(id, value) => {
             push_word(out, "write")?;
             push_number(out, u64::from(*id))?;
-            push_hex(out, value.as_slice())?;
+            push_hex(out, value.as_slice())
         }
-        Op::Pad => push_word(out, "pad")?,
+        Op::Pad => push_word(out, "pad"),
     }
-    end_line(out)
 }
 
 // comments, blank lines, extra spaces, upper-case hex, and a last line without byte 10
