@@ -11,10 +11,12 @@ mod keystream;
 mod orders;
 mod sequence;
 mod slots;
+mod texts;
 mod turns;
 mod xor;
 
 use crate::flush::Turn;
+use crate::texts::Text;
 use anyhow::{anyhow, bail};
 use std::env;
 
@@ -42,6 +44,10 @@ fn main(rt: HostRuntime) -> Result<(), anyhow::Error> {
             "flush-stash-300" => full_path::checksum(alloc, 524_288, 300, count)?,
             "flush-stash-3000" => full_path::checksum(alloc, 524_288, 3_000, count)?,
             "slots" => slots::checksum(alloc, count)?,
+            "read-script" => texts::checksum(alloc, Text::Script, count)?,
+            "read-twin" => texts::checksum(alloc, Text::Twin, count)?,
+            "read-ops" => texts::checksum(alloc, Text::Ops, count)?,
+            "read-store" => texts::checksum(alloc, Text::Store, count)?,
             "turns" => turns::turns(&rt, alloc, count)?,
             "mutex" => turns::mutex(&rt, count),
             "glances" => turns::glances(&rt, alloc, count)?,
