@@ -1,0 +1,12 @@
+//! What a player of a schedule shows: the server's tree, the fetches under way and the stores under way, after any list of allowed moves.
+//! The only code is laws: functions with empty bodies, whose contract is the law.
+#![tactic(auto)]
+
+mod moves;
+mod shown;
+
+pub use moves::{
+    acknowledges_shows, applies_shows, arrives_shows, completes_shows, opens_shows, places_show,
+    room_shows, serves_shows,
+};
+pub use shown::{answer_is_newest, shows_in_step};
