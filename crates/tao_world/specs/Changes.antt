@@ -20,7 +20,7 @@ use Rattle.tao_world.specs.State.{Reading, Sending, is_set_at, row_at}
 pub record Opens (key : List ℕ) (o : Opening) (tree : TreeState) : Type 0 where
   pub opening : IsOpening o
   pub opens : OpensWithLoad o
-  pub tree : tree ≡ all_applied (empty_tree o.shape) 0 (flat_map (encoded key o.shape (format_of o.shape.form 0)) o.loaded)
+  pub loaded : tree ≡ all_applied (empty_tree o.shape) 0 (flat_map (encoded key o.shape (format_of o.shape.form 0)) o.loaded)
 
 -- An arrival gets a row with nothing read.
 pub record Arriving (old new : History) (client : ℕ) (op : Op) (word : ℕ) (reading : Reading) (fetches fetches' : List (Option Reading)) : Type 0 where
@@ -76,7 +76,7 @@ with_put sending j = record sending { put = slice_set sending.put j true; left =
 pub record Applying (s : Shape) (v j : ℕ) (sending : Sending) (tree tree' : TreeState) (stores stores' : List (Option Sending)) : Type 0 where
   pub found : row_at stores v ≡ Some sending
   pub within : j < length sending.order.nodes
-  pub tree : tree' ≡ applied tree v (slice_index sending.order.nodes j) (piece s sending.order.image j)
+  pub write : tree' ≡ applied tree v (slice_index sending.order.nodes j) (piece s sending.order.image j)
   pub row : stores' ≡ slice_set stores v (Some (with_put sending j))
 
 -- A store of which nothing is left is acknowledged, and its row is emptied.
