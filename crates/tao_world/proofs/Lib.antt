@@ -1,3 +1,5 @@
 pub mod Tables
 pub mod Places
 pub mod WrittenBuckets
+pub mod KeptShows
+pub mod Arrivals

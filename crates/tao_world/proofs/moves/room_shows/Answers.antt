@@ -1,5 +1,4 @@
 use Rattle.tao_world.proofs.Places.{room_shows}
-use Rattle.tao_world.proofs.WrittenBuckets.{written_encodes}
 use Rattle.tao_world.proofs.moves.room_shows.Goals as goal
 
 pub returns : goal.returns
