@@ -3,3 +3,4 @@ pub mod Places
 pub mod WrittenBuckets
 pub mod KeptShows
 pub mod Arrivals
+pub mod ServedReads
