@@ -4,3 +4,5 @@ pub mod WrittenBuckets
 pub mod KeptShows
 pub mod Arrivals
 pub mod ServedReads
+pub mod WriteBacks
+pub mod AppliedWrites
