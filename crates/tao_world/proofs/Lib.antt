@@ -6,3 +6,5 @@ pub mod Arrivals
 pub mod ServedReads
 pub mod WriteBacks
 pub mod AppliedWrites
+pub mod AcknowledgedStores
+pub mod NewestAnswers
