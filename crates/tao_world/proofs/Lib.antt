@@ -8,3 +8,4 @@ pub mod WriteBacks
 pub mod AppliedWrites
 pub mod AcknowledgedStores
 pub mod NewestAnswers
+pub mod CompletedPaths
