@@ -9,3 +9,4 @@ pub mod AppliedWrites
 pub mod AcknowledgedStores
 pub mod NewestAnswers
 pub mod CompletedPaths
+pub mod LoadedTrees
