@@ -1,5 +1,5 @@
 -- An acknowledgement is one move.
-use Rattle.std.proofs.Common.{◌≡◌, ℕ, ◌<◌, ◌≤◌, Bool, true, false, not, ◌&&◌, ◌||◌, List, ◌∷◌, ◌++◌, [], reverse, length, get_or, set, Option, Some, None, refl, sym, ap, ◌∙◌, subst, arith, nat_eq, nat_lt}
+use Rattle.std.proofs.Common.{◌≡◌, ℕ, ◌<◌, ◌≤◌, true, false, not, ◌&&◌, ◌||◌, List, ◌∷◌, ◌++◌, [], reverse, length, set, Option, Some, None, refl, sym, ap, ◌∙◌, subst, arith, nat_lt}
 use Rattle.std.specs.Prelude.{nat_le}
 use Rattle.std.proofs.lemmas.Bool.{eq-eqb, ne_eqb, and_right}
 use Rattle.std.proofs.lemmas.List.{length-set}
@@ -16,9 +16,8 @@ use Rattle.tao_images.specs.Answers.{with_event}
 use Rattle.tao_schedule.specs.Moves.{Move, Acknowledges, is_applied}
 use Rattle.tao_schedule.specs.Schedules.{Goes, IsSchedule}
 use Rattle.tao_tree.specs.Nodes.{TreeState}
-use Rattle.tao_world.specs.State.{Reading, Sending, is_set_at, row_at}
+use Rattle.tao_world.specs.State.{Reading, Sending, row_at}
 use Rattle.tao_world.specs.Shows.{IsSameBucket, Shows, ShowsStore, ShowsSending}
-use Rattle.tao_world.specs.Changes.{Acknowledging}
 use Rattle.tao_world.specs.Laws.{AcknowledgesShows}
 use Rattle.tao_world.proofs.Tables.{some_within, rows_set, all_set}
 use Rattle.tao_world.proofs.WriteBacks.{IsWriteBack, made, order_nodes}

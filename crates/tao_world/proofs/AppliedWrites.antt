@@ -1,5 +1,5 @@
 -- A write of one node is one move, also if it is repeated.
-use Rattle.std.proofs.Common.{◌≡◌, ℕ, ◌+◌, ◌-◌, ◌<◌, ◌≤◌, max, Bool, true, false, not, ◌&&◌, ◌||◌, cond, List, [], ◌∷◌, reverse, length, get_or, set, Option, Some, None, is_some, refl, sym, ap, ap₂, ◌∙◌, subst, arith, inl, inr, ◌⊎◌, nat_eq, nat_lt}
+use Rattle.std.proofs.Common.{◌≡◌, ℕ, ◌-◌, ◌<◌, ◌≤◌, max, Bool, true, false, ◌&&◌, ◌||◌, cond, List, [], ◌∷◌, reverse, length, get_or, set, Option, Some, None, is_some, refl, sym, ap, ap₂, ◌∙◌, subst, arith, inl, inr, ◌⊎◌, nat_eq, nat_lt}
 use Rattle.std.specs.Option.{option_map}
 use Rattle.std.proofs.Math.Nat.{max-eq_left, max-eq_right}
 use Rattle.std.proofs.lemmas.Bool.{cases_lt, cases_eq, eq-eqb, ne_eqb, ltb-true, ltb-false, true≢false}
@@ -15,10 +15,10 @@ use Rattle.tao_laws.proofs.Listings.{listed_at}
 use Rattle.tao_images.specs.Paths.{piece}
 use Rattle.tao_schedule.specs.Moves.{Move, Applies, server_version, is_applied}
 use Rattle.tao_schedule.specs.Schedules.{Goes, IsSchedule}
-use Rattle.tao_tree.specs.Nodes.{TreeState, Held, holding, held_at, held_version, version_at, bytes_at, bytes_of, is_newer, applied}
-use Rattle.tao_world.specs.State.{Reading, Sending, is_set_at, row_at}
+use Rattle.tao_tree.specs.Nodes.{TreeState, holding, held_at, held_version, version_at, bytes_at, bytes_of, is_newer, applied}
+use Rattle.tao_world.specs.State.{Sending, is_set_at, row_at}
 use Rattle.tao_world.specs.Shows.{IsWritten, Shows, ShowsNode, ShowsTree, ShowsStore, ShowsSending}
-use Rattle.tao_world.specs.Changes.{Applying, with_put}
+use Rattle.tao_world.specs.Changes.{with_put}
 use Rattle.tao_world.specs.Laws.{AppliesShows}
 use Rattle.tao_world.proofs.Tables.{some_within, rows_set, flag_set, left_set}
 use Rattle.tao_world.proofs.WriteBacks.{IsWriteBack, made, nodes_once, order_nodes, node_within, sent_bytes, once_same}

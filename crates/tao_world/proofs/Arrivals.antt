@@ -1,5 +1,5 @@
 -- An arrival is one move.
-use Rattle.std.proofs.Common.{◌≡◌, ℕ, ◌+◌, ◌<◌, ◌≤◌, Bool, true, false, not, ◌&&◌, ◌||◌, List, [], ◌∷◌, ◌++◌, reverse, length, set, Option, Some, None, refl, sym, ap, ◌∙◌, subst, arith, inl, inr, ◌⊎◌, nat_lt, nat_eq}
+use Rattle.std.proofs.Common.{◌≡◌, ℕ, ◌+◌, ◌<◌, ◌≤◌, true, false, not, ◌&&◌, List, [], ◌∷◌, ◌++◌, reverse, length, set, Option, Some, refl, sym, ap, ◌∙◌, subst, arith, inl, inr, ◌⊎◌, nat_lt, nat_eq}
 use Rattle.std.proofs.lemmas.Bool.{lt-ltb, eqb-true, or_cases, true≢false, and_from, not_from_false, false_from_ne_true}
 use Rattle.std.proofs.lemmas.List.{length-set}
 use Rattle.tao_base.specs.declared.calls.Op.{Op}
@@ -20,7 +20,6 @@ use Rattle.tao_schedule.proofs.ServerVersions.{served_below}
 use Rattle.tao_tree.specs.Nodes.{TreeState}
 use Rattle.tao_world.specs.State.{Reading, Sending, is_set_at, row_at}
 use Rattle.tao_world.specs.Shows.{IsSameBucket, Shows, ShowsFetch, ShowsReading}
-use Rattle.tao_world.specs.Changes.{Arriving}
 use Rattle.tao_world.specs.Laws.{ArrivesShows}
 use Rattle.tao_world.proofs.Tables.{rows_set}
 use Rattle.tao_world.proofs.KeptShows.{below_next, moved_tree, moved_fetch, moved_store, told_tree, told_fetch, told_store}

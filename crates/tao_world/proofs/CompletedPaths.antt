@@ -1,5 +1,5 @@
 -- A whole path that reaches the proxy is one move, with or without a write-back.
-use Rattle.std.proofs.Common.{◌≡◌, ℕ, ◌+◌, ◌<◌, ◌≤◌, Bool, true, false, not, ◌&&◌, ◌||◌, List, ◌∷◌, ◌++◌, [], reverse, length, get_or, set, replicate, Contains, Option, Some, None, refl, sym, ap, ◌∙◌, subst, arith, nat_eq, nat_lt, inl, inr, ◌⊎◌}
+use Rattle.std.proofs.Common.{◌≡◌, ℕ, ◌+◌, ◌<◌, ◌≤◌, true, false, not, ◌&&◌, ◌||◌, List, ◌∷◌, ◌++◌, [], reverse, length, get_or, set, Option, Some, None, refl, sym, ap, ◌∙◌, subst, arith, nat_eq, nat_lt, inl, inr, ◌⊎◌}
 use Rattle.std.specs.Prelude.{nat_le}
 use Rattle.std.proofs.lemmas.Bool.{cases_lt, eq-eqb, eqb-true, ne_eqb, and_right, and_from, and_parts, or_cases, leb-true, le-leb, lt-leb, lt-ltb, not_from_false, false_from_ne_true, true≢false}
 use Rattle.std.proofs.lemmas.List.{length-set, length-replicate}
@@ -9,7 +9,7 @@ use Rattle.tao_base.specs.declared.session.Event.TheVariants.{Done, Issue}
 use Rattle.tao_base.specs.declared.storage.Bucket.{Bucket}
 use Rattle.tao_base.specs.declared.storage.Order.{Order}
 use Rattle.tao_base.specs.Session.{Opening, History}
-use Rattle.tao_base.specs.Tree.{node_at, path, is_on_path}
+use Rattle.tao_base.specs.Tree.{node_at}
 use Rattle.tao_model.specs.Events.{arrived, issues, is_done, is_acked, is_under_way, is_outstanding}
 use Rattle.tao_model.specs.Requests.{fetched_leaf, fetches}
 use Rattle.tao_model.specs.Residence.{Unaltered}
@@ -25,7 +25,7 @@ use Rattle.tao_schedule.specs.Schedules.{Goes, IsSchedule, TakesIn}
 use Rattle.tao_tree.specs.Nodes.{TreeState}
 use Rattle.tao_world.specs.State.{Reading, Sending, is_set_at, row_at}
 use Rattle.tao_world.specs.Shows.{IsSameBucket, Shows, ShowsTree, ShowsFetch, ShowsReading, ShowsStore, ShowsSending}
-use Rattle.tao_world.specs.Changes.{Completing, AddsStore, new_sending}
+use Rattle.tao_world.specs.Changes.{AddsStore, new_sending}
 use Rattle.tao_world.specs.Laws.{CompletesShows}
 use Rattle.tao_world.proofs.Tables.{some_within, rows_set, none_set, none_left}
 use Rattle.tao_world.proofs.KeptShows.{moved_tree, moved_fetch, moved_store, told_tree, told_fetch, told_store}

@@ -1,10 +1,10 @@
 -- What stays shown after a move or an event that doesn't concern it.
-use Rattle.std.proofs.Common.{◌≡◌, ℕ, ◌+◌, ◌<◌, ◌≤◌, Bool, true, false, not, ◌&&◌, List, [], ◌∷◌, ◌++◌, reverse, Option, Some, None, refl, sym, ap, ◌∙◌, subst, arith, inl, inr, ◌⊎◌, nat_lt}
+use Rattle.std.proofs.Common.{◌≡◌, ℕ, ◌+◌, ◌<◌, ◌≤◌, List, [], ◌∷◌, reverse, Option, Some, None, sym, ap, ◌∙◌, subst, arith, inl, inr, ◌⊎◌, nat_lt}
 use Rattle.std.proofs.lemmas.Bool.{cases_lt, lt-ltb, le-ltb}
 use Rattle.tao_base.specs.declared.session.Event.{Event}
-use Rattle.tao_base.specs.Session.{Opening, History}
+use Rattle.tao_base.specs.Session.{History}
 use Rattle.tao_base.specs.Tree.{node_at}
-use Rattle.tao_model.specs.Events.{arrived, issues, is_under_way, is_outstanding}
+use Rattle.tao_model.specs.Events.{is_under_way, is_outstanding}
 use Rattle.tao_model.specs.Requests.{fetched_leaf}
 use Rattle.tao_model.specs.Lawful.{FollowsLawfully}
 use Rattle.tao_model.proofs.Places.{leaf_stays_later}
@@ -14,9 +14,9 @@ use Rattle.tao_images.specs.Paths.{piece}
 use Rattle.tao_images.proofs.OrderLemmas.{issued_stays}
 use Rattle.tao_schedule.specs.Moves.{Move, server_version, is_served, served_version, is_applied}
 use Rattle.tao_schedule.proofs.ServerVersions.{under_parts}
-use Rattle.tao_tree.specs.Nodes.{TreeState, version_at, bytes_at}
+use Rattle.tao_tree.specs.Nodes.{TreeState, bytes_at}
 use Rattle.tao_world.specs.State.{Reading, Sending}
-use Rattle.tao_world.specs.Shows.{IsWritten, ShowsNode, ShowsTree, ShowsFetch, ShowsReading, ShowsStore, ShowsSending}
+use Rattle.tao_world.specs.Shows.{IsWritten, ShowsTree, ShowsFetch, ShowsStore}
 use Rattle.tao_world.proofs.WrittenBuckets.{still_written}
 
 -- a number that isn't the next one is below it if it is below the one before

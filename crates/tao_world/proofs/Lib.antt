@@ -10,3 +10,4 @@ pub mod AcknowledgedStores
 pub mod NewestAnswers
 pub mod CompletedPaths
 pub mod LoadedTrees
+pub mod ShownSteps

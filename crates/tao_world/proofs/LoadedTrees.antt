@@ -1,5 +1,5 @@
 -- The load, applied to an empty tree.
-use Rattle.std.proofs.Common.{◌≡◌, ℕ, zero, suc, ◌+◌, ◌-◌, ◌*◌, ◌/◌, ◌<◌, ◌≤◌, Bool, true, false, not, ◌&&◌, cond, List, ◌∷◌, ◌++◌, [], reverse, map, length, get_or, set, take, drop, replicate, All, Option, Some, None, refl, sym, ap, ap₂, ◌∙◌, subst, arith, nat_eq, nat_lt, inl, inr, ◌⊎◌}
+use Rattle.std.proofs.Common.{◌≡◌, ℕ, zero, suc, ◌+◌, ◌-◌, ◌*◌, ◌/◌, ◌<◌, ◌≤◌, true, false, ◌&&◌, cond, List, ◌∷◌, [], map, length, get_or, set, take, drop, replicate, All, Option, Some, None, refl, sym, ap, ap₂, ◌∙◌, subst, arith, nat_lt, inl, inr, ◌⊎◌}
 use Rattle.std.specs.List.{fold, flat_map, range_with_len, AllByRecursion}
 use Rattle.std.specs.Prelude.{nat_le}
 use Rattle.std.proofs.Math.Nat.{mul-div_cancel}
@@ -13,21 +13,19 @@ use Rattle.tao_base.specs.Buckets.{IsInForm}
 use Rattle.tao_base.specs.Images.{bucket_in, buckets_in}
 use Rattle.tao_base.specs.Limits.{Shape, IsShape, bucket_len}
 use Rattle.tao_base.specs.Links.{header_node}
-use Rattle.tao_base.specs.Session.{Opening, History}
+use Rattle.tao_base.specs.Session.{Opening}
 use Rattle.tao_base.specs.Tree.{node_count}
 use Rattle.tao_base.proofs.ImageLemmas.{length_joined}
 use Rattle.tao_bucket.specs.Encoding.{encoded, format_of}
 use Rattle.tao_bucket.proofs.Whole.{encoded_parts}
-use Rattle.tao_model.specs.Events.{issues, is_acked, is_under_way, is_outstanding}
+use Rattle.tao_model.specs.Events.{is_under_way, is_outstanding}
 use Rattle.tao_model.specs.Residence.{bucket_of}
-use Rattle.tao_model.specs.Lawful.{IsOpening, OpensWithLoad}
 use Rattle.tao_model.specs.Trace.{nodes_in}
 use Rattle.tao_laws.proofs.Listings.{HasOnce, once_range}
 use Rattle.tao_images.proofs.OrderLemmas.{lengths}
-use Rattle.tao_schedule.specs.Moves.{Move}
 use Rattle.tao_schedule.specs.Schedules.{IsSchedule}
-use Rattle.tao_tree.specs.Nodes.{TreeState, Held, holding, held_at, held_version, version_at, bytes_at, bytes_of, empty_tree, is_newer, applied, bucket_applied, all_applied}
-use Rattle.tao_world.specs.State.{Reading, Sending, row_at}
+use Rattle.tao_tree.specs.Nodes.{TreeState, Held, holding, held_at, held_version, bytes_at, bytes_of, empty_tree, is_newer, applied, bucket_applied, all_applied}
+use Rattle.tao_world.specs.State.{row_at}
 use Rattle.tao_world.specs.Shows.{Shows, ShowsNode, ShowsStore}
 use Rattle.tao_world.specs.Changes.{Opens}
 use Rattle.tao_world.specs.Laws.{OpensShows, begun}

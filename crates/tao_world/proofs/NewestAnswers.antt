@@ -1,32 +1,28 @@
 -- A path that was read whole holds the latest versions of the nodes that the proxy doesn't hold.
-use Rattle.std.proofs.Common.{◌≡◌, ℕ, ◌<◌, ◌≤◌, Bool, true, false, not, List, ◌∷◌, reverse, length, get_or, All, Option, Some, IfSome, refl, sym, ap, ◌∙◌, subst, arith, [], ◌&&◌}
+use Rattle.std.proofs.Common.{◌≡◌, ℕ, ◌<◌, ◌≤◌, true, false, not, List, reverse, length, get_or, All, Option, Some, IfSome, sym, ap, ◌∙◌, subst, arith, [], ◌&&◌}
 use Rattle.std.specs.Option.{option_map_or}
 use Rattle.std.proofs.lemmas.Bool.{and_parts, not-true}
 use Rattle.std.proofs.lemmas.List.{length-map, get_or-map}
-use Rattle.tao_base.specs.declared.session.Event.{Event}
-use Rattle.tao_base.specs.declared.session.Event.TheVariants.{Done}
 use Rattle.tao_base.specs.declared.storage.Bucket.{Bucket}
 use Rattle.tao_base.specs.Limits.{IsShape}
-use Rattle.tao_base.specs.Session.{Opening, History}
+use Rattle.tao_base.specs.Session.{History}
 use Rattle.tao_base.specs.Tree.{node_at, path, is_on_path}
-use Rattle.tao_bucket.specs.Encoding.{Encodes, encoded, format_of, tag_of}
+use Rattle.tao_bucket.specs.Encoding.{Encodes, format_of, tag_of}
 use Rattle.tao_bucket.proofs.Whole.{same_bucket}
 use Rattle.tao_model.specs.Requests.{fetched_leaf, fetches}
-use Rattle.tao_model.specs.Residence.{is_resident, newest_version, newest_write, Unaltered}
-use Rattle.tao_model.specs.LookBacks.{written_at}
+use Rattle.tao_model.specs.Residence.{is_resident, newest_version, newest_write}
 use Rattle.tao_model.specs.Trace.{nodes_in}
 use Rattle.tao_model.proofs.FallingPaths.{has}
 use Rattle.tao_model.proofs.LawfulToWhole.{follows_opening}
 use Rattle.tao_laws.proofs.Listings.{has_filter, listed_at}
 use Rattle.tao_laws.proofs.RecentNodes.{leaf_low}
 use Rattle.tao_images.specs.Answers.{kept_tag, AreFetched}
-use Rattle.tao_images.specs.Nodes.{Holds}
 use Rattle.tao_images.specs.Paths.{piece, IsReadFrom}
 use Rattle.tao_schedule.specs.Moves.{Move, is_served, served_version}
 use Rattle.tao_schedule.proofs.QuietServers.{served_is_newest}
 use Rattle.tao_schedule.proofs.ServerVersions.{stays_in_step}
 use Rattle.tao_tree.specs.Nodes.{TreeState}
-use Rattle.tao_world.specs.State.{Reading, Sending, is_set_at, row_at}
+use Rattle.tao_world.specs.State.{Reading, Sending, is_set_at}
 use Rattle.tao_world.specs.Shows.{IsSameBucket, IsWritten, Shows, ShowsFetch, ShowsReading}
 use Rattle.tao_world.specs.Laws.{HoldsNewest, IsNewestAnswer, AnswerIsNewest}
 use Rattle.tao_world.proofs.WrittenBuckets.{written_fine, written_encodes}

@@ -1,12 +1,11 @@
 -- Places that are made ready, and rooms of unread paths.
-use Rattle.std.proofs.Common.{◌≡◌, ℕ, ◌+◌, ◌<◌, ◌≤◌, Bool, true, false, List, ◌++◌, length, replicate, set, Option, Some, None, sym, ap, ◌∙◌, subst, arith}
+use Rattle.std.proofs.Common.{replicate, Some, None, sym, ap, ◌∙◌, subst, arith}
 use Rattle.std.proofs.lemmas.Bool.{true≢false}
 use Rattle.std.proofs.lemmas.List.{length-append, length-set}
 use Rattle.tao_base.specs.Tree.{node_at}
 use Rattle.tao_schedule.specs.Moves.{is_served}
-use Rattle.tao_world.specs.State.{Reading, Sending}
-use Rattle.tao_world.specs.Shows.{Shows, ShowsFetch, ShowsReading, ShowsStore}
-use Rattle.tao_world.specs.Laws.{PlacesShow, RoomShows, IsStillUnread}
+use Rattle.tao_world.specs.Shows.{ShowsFetch, ShowsReading, ShowsStore}
+use Rattle.tao_world.specs.Laws.{PlacesShow, RoomShows}
 use Rattle.tao_world.proofs.Tables.{some_within, rows_set, rows_more}
 
 pub places_show : PlacesShow

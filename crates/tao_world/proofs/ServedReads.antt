@@ -1,5 +1,5 @@
 -- A read of one node is one move.
-use Rattle.std.proofs.Common.{◌≡◌, ℕ, ◌+◌, ◌*◌, ◌^◌, ◌<◌, ◌≤◌, Bool, true, false, ◌&&◌, ◌||◌, cond, List, [], ◌∷◌, reverse, length, set, Option, Some, refl, sym, ap, ap₂, ◌∙◌, subst, arith, inl, inr, ◌⊎◌, nat_eq, mul-le-mul_right}
+use Rattle.std.proofs.Common.{◌≡◌, ℕ, ◌+◌, ◌*◌, ◌^◌, ◌<◌, ◌≤◌, true, false, ◌&&◌, ◌||◌, cond, List, ◌∷◌, reverse, length, set, Option, Some, refl, sym, ap, ap₂, ◌∙◌, subst, arith, inl, inr, ◌⊎◌, nat_eq, mul-le-mul_right}
 use Rattle.std.proofs.lemmas.Bool.{cases_eq, eq-eqb, ne_eqb}
 use Rattle.std.proofs.lemmas.List.{length-set}
 use Rattle.tao_base.specs.declared.session.Event.{Event}
@@ -8,16 +8,16 @@ use Rattle.tao_base.specs.Session.{Opening, History}
 use Rattle.tao_base.specs.Tree.{node_at, node_count, is_on_path}
 use Rattle.tao_base.proofs.TreeLemmas.{one_le_node, node_low, node_high, one_depth, on_path_depth}
 use Rattle.tao_model.specs.Events.{is_under_way}
-use Rattle.tao_model.specs.Requests.{fetched_leaf, fetches}
+use Rattle.tao_model.specs.Requests.{fetches}
 use Rattle.tao_laws.proofs.RecentNodes.{leaf_low}
 use Rattle.tao_images.specs.Paths.{piece}
 use Rattle.tao_images.proofs.KnownLemmas.{node_within}
 use Rattle.tao_schedule.specs.Moves.{Move, Serves, server_version, is_served, served_version}
 use Rattle.tao_schedule.specs.Schedules.{Goes, IsSchedule}
 use Rattle.tao_tree.specs.Nodes.{TreeState, bytes_at}
-use Rattle.tao_world.specs.State.{Reading, Sending, is_set_at, row_at}
+use Rattle.tao_world.specs.State.{Reading, is_set_at, row_at}
 use Rattle.tao_world.specs.Shows.{IsWritten, Shows, ShowsNode, ShowsFetch, ShowsReading}
-use Rattle.tao_world.specs.Changes.{Serving, with_bucket, bucket_put}
+use Rattle.tao_world.specs.Changes.{with_bucket, bucket_put}
 use Rattle.tao_world.specs.Laws.{ServesShows}
 use Rattle.tao_world.proofs.Tables.{some_within, rows_set, flag_set, put_here, put_other}
 use Rattle.tao_world.proofs.WrittenBuckets.{written_len}

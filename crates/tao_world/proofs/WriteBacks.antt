@@ -1,5 +1,5 @@
 -- The write-backs of a record, and the orders that send them. The events `es` are newest first.
-use Rattle.std.proofs.Common.{◌≡◌, ℕ, zero, suc, ◌+◌, ◌<◌, ◌≤◌, Bool, true, false, cond, List, [], ◌∷◌, ◌++◌, reverse, length, get_or, take, drop, All, Contains, Option, Some, is_some, refl, sym, ap, ◌∙◌, subst, arith, nat_eq, nat_lt, ◌*◌}
+use Rattle.std.proofs.Common.{◌≡◌, ℕ, zero, suc, ◌+◌, ◌<◌, ◌≤◌, true, cond, List, [], ◌∷◌, ◌++◌, reverse, length, get_or, take, drop, All, Contains, Some, is_some, refl, sym, ap, ◌∙◌, subst, arith, nat_lt, ◌*◌}
 use Rattle.std.specs.List.{range_with_len}
 use Rattle.std.proofs.Math.Seq.{split_at}
 use Rattle.std.proofs.lemmas.Bool.{eq-eqb, ne_eqb, true≢false}
@@ -10,7 +10,7 @@ use Rattle.tao_base.specs.declared.session.Event.TheVariants.{Arrive, Done, Issu
 use Rattle.tao_base.specs.declared.storage.Bucket.{Bucket}
 use Rattle.tao_base.specs.declared.storage.Order.{Order}
 use Rattle.tao_base.specs.Buckets.{IsInForm}
-use Rattle.tao_base.specs.Limits.{Shape, IsShape, bucket_len}
+use Rattle.tao_base.specs.Limits.{IsShape, bucket_len}
 use Rattle.tao_base.specs.Session.{Opening, History}
 use Rattle.tao_base.specs.Tree.{node_count}
 use Rattle.tao_base.proofs.ImageLemmas.{bucket_joined}

@@ -1,5 +1,5 @@
 -- The buckets that were written: in form, of their version, and with small numbers. The events `es` are newest first.
-use Rattle.std.proofs.Common.{◌≡◌, ℕ, zero, suc, ◌+◌, ◌*◌, ◌^◌, ◌<◌, ◌≤◌, Bool, true, false, cond, List, [], ◌∷◌, ◌++◌, map, reverse, length, get_or, All, Option, Some, None, is_some, refl, sym, ap, ◌∙◌, subst, arith, inl, inr, ◌⊎◌, nat_eq, ◌/◌}
+use Rattle.std.proofs.Common.{◌≡◌, ℕ, zero, suc, ◌+◌, ◌*◌, ◌^◌, ◌<◌, ◌≤◌, Bool, true, false, cond, List, [], ◌∷◌, ◌++◌, map, reverse, length, get_or, All, Some, None, is_some, refl, sym, ap, ◌∙◌, subst, arith, inl, inr, ◌⊎◌, nat_eq, ◌/◌}
 use Rattle.std.specs.List.{filter_map, range_with_len}
 use Rattle.std.proofs.Math.Nat.{min-le_left, mul-le-mul}
 use Rattle.std.proofs.Math.Pow.{pow_mono}
@@ -20,7 +20,7 @@ use Rattle.tao_bucket.proofs.Whole.{encoded_parts, encoding_of}
 use Rattle.tao_model.specs.Events.{issues, buckets_issued}
 use Rattle.tao_model.specs.Residence.{bucket_of}
 use Rattle.tao_model.specs.LookBacks.{buckets_of, written, written_at}
-use Rattle.tao_model.specs.Lawful.{IsLawful, IsNumbered, OpensWithLoad, FollowsLawfully}
+use Rattle.tao_model.specs.Lawful.{IsLawful, OpensWithLoad, FollowsLawfully}
 use Rattle.tao_model.proofs.DonesInOrder.{picked_more, picked_same}
 use Rattle.tao_model.proofs.LawfulToWhole.{follows_opening}
 use Rattle.tao_model.proofs.NewestWrites.{versions_listed}

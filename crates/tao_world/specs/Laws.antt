@@ -1,5 +1,5 @@
 -- Laws of what a player shows: after each move it shows one move more, and its answers are never refused. Moves are newest first.
-use Rattle.std.specs.Prelude.{◌≡◌, ℕ, ◌≤◌, true, false, List, [], ◌∷◌, ◌++◌, reverse, replicate, slice_index, slice_set, Option, Some, None, All}
+use Rattle.std.specs.Prelude.{◌≡◌, ℕ, ◌≤◌, Bool, true, false, List, [], ◌∷◌, ◌++◌, reverse, replicate, slice_index, slice_set, Option, Some, None}
 use Rattle.tao_base.specs.declared.calls.Op.{Op}
 use Rattle.tao_base.specs.declared.session.Event.TheVariants.{Done}
 use Rattle.tao_base.specs.declared.storage.Bucket.{Bucket}
@@ -7,8 +7,9 @@ use Rattle.tao_base.specs.declared.storage.Order.{Order}
 use Rattle.tao_base.specs.Session.{Opening, History}
 use Rattle.tao_base.specs.Tree.{node_at}
 use Rattle.tao_model.specs.Requests.{fetched_leaf}
-use Rattle.tao_model.specs.Residence.{is_resident, newest_version, newest_write, Unaltered}
-use Rattle.tao_images.specs.Answers.{kept_tag, IsAnswered, AreFetched}
+use Rattle.tao_model.specs.Residence.{is_resident, newest_version, newest_write, Unaltered, HasEntriesOf}
+use Rattle.tao_images.specs.Answers.{kept_tag, IsAnswered, AreFetched, IsUnaltered}
+use Rattle.tao_images.specs.Honesty.{HasTagOf}
 use Rattle.tao_images.specs.Nodes.{Holds}
 use Rattle.tao_images.specs.Paths.{piece}
 use Rattle.tao_schedule.specs.Moves.{Move, Arrives, Serves, Completes, Applies, Acknowledges}
@@ -100,3 +101,14 @@ AnswerIsNewest = (ms : List Move) (key : List ℕ) (h : History) (tree : TreeSta
 abbrev pub ShowsInStep : Type 0
 ShowsInStep = (ms : List Move) (key : List ℕ) (h : History) (tree : TreeState) (fetches : List (Option Reading)) (stores : List (Option Sending))
     → Shows ms key h tree fetches stores → WritesHeld h.opening (reverse h.events) → InStep key h tree fetches stores
+
+-- honest in each sense that a store may have: in entries, without forgeries, with the tags, and in each sense that a test decides
+pub record IsHonest (key : List ℕ) (h : History) : Type 0 where
+  pub entries : Unaltered HasEntriesOf h.opening (reverse h.events)
+  pub unforged : IsUnaltered key h
+  pub tags : Unaltered (HasTagOf key h.opening.shape) h.opening (reverse h.events)
+  pub by_test : (test : Bucket → Bucket → Bool) → ((bucket : Bucket) → test bucket bucket ≡ true) → Unaltered (λ x y. test x y ≡ true) h.opening (reverse h.events)
+
+-- Answers that are the very buckets are.
+abbrev pub WholeIsHonest : Type 0
+WholeIsHonest = (key : List ℕ) (h : History) → Unaltered IsSameBucket h.opening (reverse h.events) → IsHonest key h

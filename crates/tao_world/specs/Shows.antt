@@ -1,5 +1,5 @@
 -- What a player shows whose moves were these: the tree, the fetches and the stores as the moves left them. Moves are newest first.
-use Rattle.std.specs.Prelude.{◌≡◌, ℕ, ◌+◌, ◌<◌, ◌≤◌, Bool, true, false, not, List, length, reverse, slice_index, Option, Some, None, count_by}
+use Rattle.std.specs.Prelude.{◌≡◌, ℕ, ◌<◌, ◌≤◌, true, false, not, List, length, reverse, slice_index, Option, Some, None, count_by}
 use Rattle.tao_base.specs.declared.storage.Bucket.{Bucket}
 use Rattle.tao_base.specs.Session.{History}
 use Rattle.tao_base.specs.Tree.{node_at, node_count}

@@ -9,4 +9,4 @@ pub use moves::{
     acknowledges_shows, applies_shows, arrives_shows, completes_shows, opens_shows, places_show,
     room_shows, serves_shows,
 };
-pub use shown::{answer_is_newest, shows_in_step};
+pub use shown::{answer_is_newest, shows_in_step, whole_is_honest};

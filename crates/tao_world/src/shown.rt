@@ -1,5 +1,5 @@
 //! Laws of what is shown.
-ghost use Rattle.tao_world.specs.Laws.{AnswerIsNewest, ShowsInStep};
+ghost use Rattle.tao_world.specs.Laws.{AnswerIsNewest, ShowsInStep, WholeIsHonest};
 
 /// Answers hold the latest versions, so none is refused.
 pub fn answer_is_newest()
@@ -9,4 +9,9 @@ pub fn answer_is_newest()
 /// The server and the proxy are in step.
 pub fn shows_in_step()
     ensures { ShowsInStep }
+{}
+
+/// Whole buckets are honest in every sense that a store may have.
+pub fn whole_is_honest()
+    ensures { WholeIsHonest }
 {}
