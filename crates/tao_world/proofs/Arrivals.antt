@@ -1,5 +1,5 @@
 -- An arrival is one move.
-use Rattle.std.proofs.Common.{◌≡◌, ℕ, ◌+◌, ◌<◌, ◌≤◌, true, false, not, ◌&&◌, List, [], ◌∷◌, ◌++◌, reverse, length, set, Option, Some, refl, sym, ap, ◌∙◌, subst, arith, inl, inr, ◌⊎◌, nat_lt, nat_eq}
+use Rattle.std.proofs.Common.{◌≡◌, ℕ, ◌+◌, ◌<◌, ◌≤◌, true, false, not, ◌&&◌, List, [], ◌∷◌, ◌++◌, reverse, length, set, Option, Some, refl, sym, ap, ◌∙◌, subst, arith, inl, inr, ◌⊎◌, nat_lt, nat_eq, replicate, None}
 use Rattle.std.proofs.lemmas.Bool.{lt-ltb, eqb-true, or_cases, true≢false, and_from, not_from_false, false_from_ne_true}
 use Rattle.std.proofs.lemmas.List.{length-set}
 use Rattle.tao_base.specs.declared.calls.Op.{Op}
@@ -21,7 +21,8 @@ use Rattle.tao_tree.specs.Nodes.{TreeState}
 use Rattle.tao_world.specs.State.{Reading, Sending, is_set_at, row_at}
 use Rattle.tao_world.specs.Shows.{IsSameBucket, Shows, ShowsFetch, ShowsReading}
 use Rattle.tao_world.specs.Laws.{ArrivesShows}
-use Rattle.tao_world.proofs.Tables.{rows_set}
+use Rattle.tao_world.proofs.Tables.{rows_set, row_put}
+use Rattle.tao_world.proofs.Places.{more_fetches}
 use Rattle.tao_world.proofs.KeptShows.{below_next, moved_tree, moved_fetch, moved_store, told_tree, told_fetch, told_store}
 
 arrives_goes : (o : Opening) (ms : List Move) (es : List Event) (client : ℕ) (op : Op) (word : ℕ) → IsSchedule o ms es → arrived es < session_limit o.shape
@@ -95,9 +96,16 @@ module _ (ms : List Move) (key : List ℕ) (old : History) (tree : TreeState) (f
 
 pub arrives_shows : ArrivesShows
 arrives_shows ms key old new tree fetches fetches' stores client op word reading shows a =
-    let e = Arrive client op word in
-    let n = arrived (reverse old.events) in
-    subst (λ rows. Shows (Arrives client op word ∷ ms) key new tree rows stores) (sym a.row)
-    (subst (λ h. Shows (Arrives client op word ∷ ms) key h tree (set fetches n (Some reading)) stores) (sym a.event)
-    (arrive ms key old tree fetches stores client op word reading shows (subst IsLawful a.event a.lawful) a.arrival
-    (subst (λ (h : History). reading.leaf ≡ fetched_leaf h.opening (reverse h.events) n) a.event a.leaf) a.unread a.place))
+    subst (λ h. Shows (Arrives client op word ∷ ms) key h tree fetches' stores) (sym a.event)
+    (row_put (λ rows. Shows (Arrives client op word ∷ ms) key (with_event old (Arrive client op word)) tree rows stores) n reading fetches fetches' a.row
+    (λ low. arrive ms key old tree fetches stores client op word reading shows lawful a.arrival leaf a.unread low)
+    (λ low. arrive ms key old tree (fetches ++ replicate 1 None) stores client op word reading (more_fetches ms key old tree fetches stores 1 shows) lawful a.arrival leaf a.unread low))
+  where
+    n : ℕ
+    n = arrived (reverse old.events)
+
+    lawful : IsLawful (with_event old (Arrive client op word))
+    lawful = subst IsLawful a.event a.lawful
+
+    leaf : reading.leaf ≡ fetched_leaf old.opening (reverse (old.events ++ Arrive client op word ∷ [])) (arrived (reverse old.events))
+    leaf = subst (λ (h : History). reading.leaf ≡ fetched_leaf h.opening (reverse h.events) (arrived (reverse old.events))) a.event a.leaf

@@ -1,5 +1,5 @@
 -- A whole path that reaches the proxy is one move, with or without a write-back.
-use Rattle.std.proofs.Common.{◌≡◌, ℕ, ◌+◌, ◌<◌, ◌≤◌, true, false, not, ◌&&◌, ◌||◌, List, ◌∷◌, ◌++◌, [], reverse, length, get_or, set, Option, Some, None, refl, sym, ap, ◌∙◌, subst, arith, nat_eq, nat_lt, inl, inr, ◌⊎◌}
+use Rattle.std.proofs.Common.{◌≡◌, ℕ, ◌+◌, ◌<◌, ◌≤◌, true, false, not, ◌&&◌, ◌||◌, List, ◌∷◌, ◌++◌, [], reverse, length, get_or, set, Option, Some, None, refl, sym, ap, ◌∙◌, subst, arith, nat_eq, nat_lt, inl, inr, ◌⊎◌, replicate}
 use Rattle.std.specs.Prelude.{nat_le}
 use Rattle.std.proofs.lemmas.Bool.{cases_lt, eq-eqb, eqb-true, ne_eqb, and_right, and_from, and_parts, or_cases, leb-true, le-leb, lt-leb, lt-ltb, not_from_false, false_from_ne_true, true≢false}
 use Rattle.std.proofs.lemmas.List.{length-set, length-replicate}
@@ -27,7 +27,8 @@ use Rattle.tao_world.specs.State.{Reading, Sending, is_set_at, row_at}
 use Rattle.tao_world.specs.Shows.{IsSameBucket, Shows, ShowsTree, ShowsFetch, ShowsReading, ShowsStore, ShowsSending}
 use Rattle.tao_world.specs.Changes.{AddsStore, new_sending}
 use Rattle.tao_world.specs.Laws.{CompletesShows}
-use Rattle.tao_world.proofs.Tables.{some_within, rows_set, none_set, none_left}
+use Rattle.tao_world.proofs.Tables.{some_within, rows_set, row_put, none_set, none_left}
+use Rattle.tao_world.proofs.Places.{more_stores}
 use Rattle.tao_world.proofs.KeptShows.{moved_tree, moved_fetch, moved_store, told_tree, told_fetch, told_store}
 use Rattle.tao_world.proofs.NewestAnswers.{all_read, newest_answer}
 
@@ -203,6 +204,8 @@ completes_shows ms key old new tree fetches fetches' stores stores' i reading or
         (subst (λ h. Shows (Completes i ∷ ms) key h tree (set fetches i None) stores) (sym is)
         (complete ms key old tree fetches stores i reading shows a.found a.whole taken read (subst IsLawful is a.lawful)))
     either (Some order) (taken, buckets, read, sent, is) store =
-        subst (λ rows. Shows (Completes i ∷ ms) key new tree (set fetches i None) rows) (sym store.1)
-        (subst (λ h. Shows (Completes i ∷ ms) key h tree (set fetches i None) (set stores order.version (Some (new_sending order)))) (sym is)
-        (complete_written ms key old tree fetches stores i reading shows a.found a.whole taken read buckets order sent (subst IsLawful is a.lawful) store.0))
+        subst (λ h. Shows (Completes i ∷ ms) key h tree (set fetches i None) stores') (sym is)
+        (row_put (λ rows. Shows (Completes i ∷ ms) key (with_event (with_event old (Done i taken)) (Issue order.version order.nonce buckets)) tree (set fetches i None) rows)
+        order.version (new_sending order) stores stores' store
+        (λ low. complete_written ms key old tree fetches stores i reading shows a.found a.whole taken read buckets order sent (subst IsLawful is a.lawful) low)
+        (λ low. complete_written ms key old tree fetches (stores ++ replicate 1 None) i reading (more_stores ms key old tree fetches stores 1 shows) a.found a.whole taken read buckets order sent (subst IsLawful is a.lawful) low))

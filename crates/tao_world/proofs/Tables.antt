@@ -2,12 +2,13 @@
 use Rattle.std.proofs.Common.{◌≡◌, ℕ, zero, suc, ◌+◌, ◌-◌, ◌*◌, ◌<◌, ◌≤◌, Bool, true, false, not, cond, List, [], ◌∷◌, ◌++◌, length, get_or, set, take, drop, replicate, Option, Some, None, is_some, refl, sym, ap, ◌∙◌, subst, arith, inl, inr, ◌⊎◌, nat_eq, mul-le-mul_right}
 use Rattle.std.specs.Prelude.{count_by}
 use Rattle.std.proofs.lemmas.Bool.{cases_lt, cases_eq, true≢false, eq-eqb, ne_eqb}
-use Rattle.std.proofs.lemmas.List.{get_or-set_same, get_or-set_other, get_or_past, get_or_append_left, get_or-append_right, get_or-replicate, length-replicate, length-append, length-drop, length-take-le, take_at, drop_at, take-append-le, take-append-drop, drop-append-le, append_assoc}
+use Rattle.std.proofs.lemmas.List.{get_or-set_same, get_or-set_other, get_or_past, get_or_append_left, get_or-append_right, get_or-replicate, length-replicate, length-append,  length-drop, length-take-le, take_at, drop_at, take-append-le, take-append-drop, drop-append-le, append_assoc}
 use Rattle.std.proofs.lemmas.Slice.{drop-append-drop}
 use Rattle.std.proofs.lemmas.List.Sums.{sum_by-set, sum_by-cons}
 use Rattle.std.proofs.lemmas.List.Folds.{sum_by-replicate}
 use Rattle.tao_world.specs.State.{is_set_at, row_at}
-use Rattle.tao_world.specs.Changes.{bucket_put}
+use Rattle.tao_world.specs.Changes.{bucket_put, PutsRow}
+use Rattle.std.proofs.Math.Seq.{set-append_seam}
 
 -- ---- rows
 
@@ -41,6 +42,14 @@ rows_more {X} P rows more all i = subst (P i) (sym (either (cases_lt i (length r
     either (inr past) =
         get_or-append_right rows (replicate more None) (length rows) i None refl past ∙ none (i - length rows) (cases_lt (i - length rows) more)
         ∙ sym (get_or_past rows i None past)
+
+-- what holds after a row was set, wherever there is a place, holds after it was pushed
+pub row_put : {X : Type 0} (P : List (Option X) → Type 0) (place : ℕ) (row : X) (rows rows' : List (Option X)) → PutsRow place row rows rows' → (place < length rows → P (set rows place (Some row)))
+    → (place < length (rows ++ replicate 1 None) → P (set (rows ++ replicate 1 None) place (Some row))) → P rows'
+row_put {X} P place row rows rows' (inl (low, is)) there pushed = subst P (sym is) (there low)
+row_put {X} P place row rows rows' (inr (end, is)) there pushed =
+    subst P (sym is) (subst P (ap (λ k. set (rows ++ None ∷ []) k (Some row)) end ∙ set-append_seam rows None [] (Some row))
+    (pushed (let long = length-append rows (replicate 1 None) in let one = length-replicate {A = Option X} 1 None in omega arith)))
 
 -- ---- flags
 

@@ -1,5 +1,5 @@
 -- How each move changes the record, the tree and the tables. Of each two, the second is what the change makes of the first.
-use Rattle.std.specs.Prelude.{◌≡◌, ℕ, ◌+◌, ◌-◌, ◌*◌, ◌<◌, ◌≤◌, true, false, if◌then◌else◌, List, ◌++◌, length, take, drop, reverse, replicate, slice_set, slice_index, Option, Some, None}
+use Rattle.std.specs.Prelude.{◌≡◌, ◌⊎◌, ℕ, ◌+◌, ◌-◌, ◌*◌, ◌<◌, ◌≤◌, true, false, if◌then◌else◌, List, ◌++◌, length, take, drop, reverse, replicate, slice_set, slice_index, Option, Some, None, ◌∷◌, []}
 use Rattle.std.specs.List.{flat_map}
 use Rattle.tao_base.specs.declared.calls.Op.{Op}
 use Rattle.tao_base.specs.declared.session.Event.TheVariants.{Arrive, Acked}
@@ -22,6 +22,10 @@ pub record Opens (key : List ℕ) (o : Opening) (tree : TreeState) : Type 0 wher
   pub opens : OpensWithLoad o
   pub loaded : tree ≡ all_applied (empty_tree o.shape) 0 (flat_map (encoded key o.shape (format_of o.shape.form 0)) o.loaded)
 
+-- A table gets a row at a place: it is set there, or pushed if the table ends there.
+abbrev pub PutsRow : {X : Type 0} → ℕ → X → List (Option X) → List (Option X) → Type 0
+PutsRow place row rows rows' = ((place < length rows) × (rows' ≡ slice_set rows place (Some row))) ⊎ ((place ≡ length rows) × (rows' ≡ rows ++ Some row ∷ []))
+
 -- An arrival gets a row with nothing read.
 pub record Arriving (old new : History) (client : ℕ) (op : Op) (word : ℕ) (reading : Reading) (fetches fetches' : List (Option Reading)) : Type 0 where
   pub event : new ≡ with_event old (Arrive client op word)
@@ -29,8 +33,7 @@ pub record Arriving (old new : History) (client : ℕ) (op : Op) (word : ℕ) (r
   pub arrival : reading.arrival ≡ arrived (reverse old.events)
   pub leaf : reading.leaf ≡ fetched_leaf new.opening (reverse new.events) (arrived (reverse old.events))
   pub unread : (d : ℕ) → is_set_at reading.read d ≡ false
-  pub place : arrived (reverse old.events) < length fetches
-  pub row : fetches' ≡ slice_set fetches (arrived (reverse old.events)) (Some reading)
+  pub row : PutsRow (arrived (reverse old.events)) reading fetches fetches'
 
 -- these bytes with a bucket in place of bucket i
 abbrev pub bucket_put : ℕ → List ℕ → ℕ → List ℕ → List ℕ
@@ -53,10 +56,10 @@ pub record Serving (s : Shape) (tree : TreeState) (i d : ℕ) (reading : Reading
 abbrev pub new_sending : Order → Sending
 new_sending order = record { order = order; put = replicate (length order.nodes) false; left = length order.nodes }
 
--- the stores with that of an order, if there is one, which has a place
+-- the stores with that of an order, if there is one
 abbrev pub AddsStore : Option Order → List (Option Sending) → List (Option Sending) → Type 0
 AddsStore None stores stores' = stores' ≡ stores
-AddsStore (Some order) stores stores' = (order.version < length stores) × (stores' ≡ slice_set stores order.version (Some (new_sending order)))
+AddsStore (Some order) stores stores' = PutsRow order.version (new_sending order) stores stores'
 
 -- A path that was read whole is taken in, and its row is emptied. If a write-back follows, its store gets a row.
 pub record Completing (key : List ℕ) (old new : History) (i : ℕ) (reading : Reading) (order : Option Order)

@@ -1,23 +1,24 @@
 -- Laws of what a player shows: after each move it shows one move more, and its answers are never refused. Moves are newest first.
-use Rattle.std.specs.Prelude.{◌≡◌, ℕ, ◌≤◌, Bool, true, false, List, [], ◌∷◌, ◌++◌, reverse, replicate, slice_index, slice_set, Option, Some, None}
+use Rattle.std.specs.Prelude.{◌≡◌, ℕ, ◌≤◌, Bool, true, false, List, [], ◌∷◌, ◌++◌, reverse, replicate, slice_index, slice_set, Option, Some, None, ◌<◌, ◌^◌, All}
 use Rattle.tao_base.specs.declared.calls.Op.{Op}
 use Rattle.tao_base.specs.declared.session.Event.TheVariants.{Done}
 use Rattle.tao_base.specs.declared.storage.Bucket.{Bucket}
 use Rattle.tao_base.specs.declared.storage.Order.{Order}
 use Rattle.tao_base.specs.Session.{Opening, History}
-use Rattle.tao_base.specs.Tree.{node_at}
+use Rattle.tao_base.specs.Tree.{node_at, node_count}
 use Rattle.tao_model.specs.Requests.{fetched_leaf}
 use Rattle.tao_model.specs.Residence.{is_resident, newest_version, newest_write, Unaltered, HasEntriesOf}
-use Rattle.tao_images.specs.Answers.{kept_tag, IsAnswered, AreFetched, IsUnaltered}
+use Rattle.tao_images.specs.Answers.{kept_tag, IsAnswered, AreFetched, IsUnaltered, IsLeafAnswered, AreScanned}
 use Rattle.tao_images.specs.Honesty.{HasTagOf}
 use Rattle.tao_images.specs.Nodes.{Holds}
 use Rattle.tao_images.specs.Paths.{piece}
 use Rattle.tao_schedule.specs.Moves.{Move, Arrives, Serves, Completes, Applies, Acknowledges}
-use Rattle.tao_tree.specs.Nodes.{TreeState}
+use Rattle.tao_tree.specs.Nodes.{TreeState, path_bytes, version_at, bytes_at}
 use Rattle.tao_held.specs.Held.{WritesHeld}
 use Rattle.tao_world.specs.State.{Reading, Sending, is_set_at, row_at}
 use Rattle.tao_world.specs.Shows.{IsSameBucket, Shows, InStep}
 use Rattle.tao_world.specs.Changes.{Opens, Arriving, Serving, Completing, Applying, Acknowledging}
+use Rattle.tao_laws.specs.Counted.{IsAllAcked}
 
 -- ---- the moves
 
@@ -96,6 +97,22 @@ abbrev pub AnswerIsNewest : Type 0
 AnswerIsNewest = (ms : List Move) (key : List ℕ) (h : History) (tree : TreeState) (fetches : List (Option Reading)) (stores : List (Option Sending)) (i : ℕ) (reading : Reading)
     → Shows ms key h tree fetches stores → row_at fetches i ≡ Some reading → ((d : ℕ) → d ≤ h.opening.shape.l → is_set_at reading.read d ≡ true)
     → IsNewestAnswer key h i reading.bytes
+
+-- A path of the tree, as the closing scan reads it: the latest version of each node that the proxy doesn't hold.
+pub record IsNewestLeaf (key : List ℕ) (h : History) (leaf : ℕ) (bytes : List ℕ) : Type 0 where
+  pub answered : IsLeafAnswered key h leaf bytes
+  pub newest : (taken : List Bucket) → AreScanned key h leaf bytes taken → All (λ bucket. newest_write h.opening (reverse h.events) bucket.node ≡ Some bucket) taken
+
+-- So no answer to the closing scan is refused.
+abbrev pub LeafIsNewest : Type 0
+LeafIsNewest = (ms : List Move) (key : List ℕ) (h : History) (tree : TreeState) (fetches : List (Option Reading)) (stores : List (Option Sending)) (leaf : ℕ)
+    → Shows ms key h tree fetches stores → leaf < 2 ^ h.opening.shape.l → IsNewestLeaf key h leaf (path_bytes tree leaf)
+
+-- Once all write-backs are acknowledged, the tree holds the latest version of every node.
+abbrev pub TreeIsNewest : Type 0
+TreeIsNewest = (ms : List Move) (key : List ℕ) (h : History) (tree : TreeState) (fetches : List (Option Reading)) (stores : List (Option Sending)) (node : ℕ)
+    → Shows ms key h tree fetches stores → IsAllAcked (reverse h.events) → 1 ≤ node → node ≤ node_count h.opening.shape.l
+    → (version_at tree node ≡ Some (newest_version (reverse h.events) node)) × HoldsNewest key h node (bytes_at tree node)
 
 -- What a player shows is in step, if its write-backs are true.
 abbrev pub ShowsInStep : Type 0
