@@ -32,10 +32,10 @@ applies_goes o ms es v node s out issued = (es, s, (out, issued, refl))
 
 module _ (tree : TreeState) (v node : ℕ) (bytes : List ℕ) where
   -- whether the write is kept
-  abbrev kept : Bool → TreeState
+  abbrev pub kept : Bool → TreeState
   kept t = cond t (record tree { held = set tree.held (node - 1) (Some (holding v bytes)) }) tree
 
-  kept_shape : (t : Bool) → (kept t).shape ≡ tree.shape
+  pub kept_shape : (t : Bool) → (kept t).shape ≡ tree.shape
   kept_shape true = refl
   kept_shape false = refl
 

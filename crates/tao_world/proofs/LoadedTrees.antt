@@ -1,5 +1,5 @@
 -- The load, applied to an empty tree.
-use Rattle.std.proofs.Common.{◌≡◌, ℕ, zero, suc, ◌+◌, ◌-◌, ◌*◌, ◌/◌, ◌<◌, ◌≤◌, true, false, ◌&&◌, cond, List, ◌∷◌, [], map, length, get_or, set, take, drop, replicate, All, Option, Some, None, refl, sym, ap, ap₂, ◌∙◌, subst, arith, nat_lt, inl, inr, ◌⊎◌}
+use Rattle.std.proofs.Common.{◌≡◌, ℕ, zero, suc, ◌+◌, ◌-◌, ◌*◌, ◌/◌, ◌<◌, ◌≤◌, true, false, ◌&&◌, cond, List, ◌∷◌, [], map, length, get_or, set, take, drop, replicate, All, Option, Some, None, refl, sym, ap, ap₂, ◌∙◌, subst, arith, nat_lt, inl, inr, ◌⊎◌, ◌++◌}
 use Rattle.std.specs.List.{fold, flat_map, range_with_len, AllByRecursion}
 use Rattle.std.specs.Prelude.{nat_le}
 use Rattle.std.proofs.Math.Nat.{mul-div_cancel}
@@ -7,7 +7,7 @@ use Rattle.std.specs.Option.{option_map}
 use Rattle.std.proofs.lemmas.Bool.{and_left, and_right, le-ltb, lt-leb, cases_lt}
 use Rattle.std.proofs.lemmas.List.{append-nil, take_at, drop_at, drop-drop, length-map, get_or-map, length-replicate, length-set, get_or-set_same, get_or-set_other, get_or-replicate, get_or_past}
 use Rattle.std.proofs.lemmas.List.FromFn.{get_or-range_with_len, length-range_with_len}
-use Rattle.std.proofs.lemmas.List.Elements.{All-head, All-tail}
+use Rattle.std.proofs.lemmas.List.Elements.{All-head, All-tail, All-append}
 use Rattle.tao_base.specs.declared.storage.Bucket.{Bucket}
 use Rattle.tao_base.specs.Buckets.{IsInForm}
 use Rattle.tao_base.specs.Images.{bucket_in, buckets_in}
@@ -24,12 +24,14 @@ use Rattle.tao_model.specs.Trace.{nodes_in}
 use Rattle.tao_laws.proofs.Listings.{HasOnce, once_range}
 use Rattle.tao_images.proofs.OrderLemmas.{lengths}
 use Rattle.tao_schedule.specs.Schedules.{IsSchedule}
-use Rattle.tao_tree.specs.Nodes.{TreeState, Held, holding, held_at, held_version, bytes_at, bytes_of, empty_tree, is_newer, applied, bucket_applied, all_applied}
+use Rattle.tao_tree.specs.Nodes.{TreeState, Held, holding, held_at, held_version, version_at, bytes_at, bytes_of, empty_tree, is_newer, applied, bucket_applied, all_applied}
 use Rattle.tao_world.specs.State.{row_at}
 use Rattle.tao_world.specs.Shows.{Shows, ShowsNode, ShowsStore}
 use Rattle.tao_world.specs.Changes.{Opens}
-use Rattle.tao_world.specs.Laws.{OpensShows, begun}
+use Rattle.tao_world.specs.Laws.{OpensShows, begun, PartsJoin}
 use Rattle.tao_world.proofs.WriteBacks.{found_at}
+use Rattle.tao_world.proofs.AppliedWrites.{kept_shape}
+use Rattle.std.proofs.lemmas.List.Sums.{fold-append}
 
 -- ---- an image cut into its buckets
 
@@ -68,6 +70,18 @@ module _ (key : List ℕ) (s : Shape) (format : ℕ) (shape : IsShape s) where
       ap (λ x. fold (bucket_applied version) tree (buckets_in (bucket_len x) (flat_map (encoded key s format) buckets))) same
       ∙ ap (fold (bucket_applied version) tree) (cut (encoded key s format) (bucket_len s) buckets (omega arith) (lengths key s format shape buckets forms))
       ∙ by_nodes version buckets tree forms
+
+  put_shape : (version : ℕ) (buckets : List Bucket) (tree : TreeState) → (fold (put version) tree buckets).shape ≡ tree.shape
+  put_shape version [] tree = refl
+  put_shape version (b ∷ buckets) tree = put_shape version buckets (put version tree b) ∙ kept_shape tree version b.node (encoded key s format b) (is_newer version (version_at tree b.node))
+
+  pub joins : (version : ℕ) (first rest : List Bucket) (tree : TreeState) → tree.shape ≡ s → All (IsInForm s) first → All (IsInForm s) rest
+      → all_applied (all_applied tree version (flat_map (encoded key s format) first)) version (flat_map (encoded key s format) rest) ≡ all_applied tree version (flat_map (encoded key s format) (first ++ rest))
+  joins version first rest tree same forms forms' =
+      ap (λ t. all_applied t version (flat_map (encoded key s format) rest)) (applied_by_nodes version first tree same forms)
+      ∙ applied_by_nodes version rest (fold (put version) tree first) (put_shape version first tree ∙ same) forms'
+      ∙ sym (fold-append (put version) tree first rest)
+      ∙ sym (applied_by_nodes version (first ++ rest) tree same (All-append (IsInForm s) first rest forms forms'))
 
   -- nodes from k on get the buckets, and those before stay
   record IsFilled (k : ℕ) (buckets : List Bucket) (before now : TreeState) : Type 0 where
@@ -187,6 +201,9 @@ module _ (key : List ℕ) (o : Opening) (tree : TreeState) (is : Opens key o tre
     reads = record { places = omega arith; rows = none_under_way };
     puts = record { places = omega arith; rows = no_stores key o };
   }
+
+pub parts_join : PartsJoin
+parts_join key s version first rest tree shape same forms forms' = joins key s (format_of s.form version) shape version first rest tree same forms forms'
 
 pub opens_shows : OpensShows
 opens_shows key o tree is = opens key o tree is

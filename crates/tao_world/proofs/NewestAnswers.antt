@@ -1,17 +1,15 @@
 -- What the server answers holds the latest versions of the nodes that the proxy doesn't hold.
-use Rattle.std.proofs.Common.{◌≡◌, ℕ, ◌+◌, ◌^◌, ◌<◌, ◌≤◌, Bool, true, false, not, ◌&&◌, List, [], ◌∷◌, reverse, map, length, get_or, All, Option, Some, IfSome, refl, sym, ap, ◌∙◌, subst, arith}
-use Rattle.std.specs.List.{range_with_len, flat_map, AllByRecursion}
+use Rattle.std.proofs.Common.{◌≡◌, ℕ, ◌+◌, ◌^◌, ◌<◌, ◌≤◌, Bool, true, false, not, ◌&&◌, List, [], reverse, length, get_or, All, Option, Some, IfSome, refl, sym, ap, ◌∙◌, subst, arith}
+use Rattle.std.specs.List.{flat_map, AllByRecursion}
 use Rattle.std.specs.Option.{option_map_or}
 use Rattle.std.proofs.lemmas.Bool.{and_parts, or_parts, not-true}
 use Rattle.std.proofs.lemmas.List.{length-map, get_or-map}
 use Rattle.std.proofs.lemmas.List.Elements.{All-weaker, recursion_from_All}
 use Rattle.std.proofs.lemmas.List.FromFn.{get_or-map-range_with_len, length-map-range_with_len}
-use Rattle.tao_base.specs.declared.session.Event.{Event}
-use Rattle.tao_base.specs.declared.session.Event.TheVariants.{Done}
 use Rattle.tao_base.specs.declared.storage.Bucket.{Bucket}
-use Rattle.tao_base.specs.Limits.{Shape, IsShape, bucket_len}
-use Rattle.tao_base.specs.Session.{Opening, History}
-use Rattle.tao_base.specs.Tree.{node_at, node_count, path, is_on_path}
+use Rattle.tao_base.specs.Limits.{Shape, bucket_len}
+use Rattle.tao_base.specs.Session.{History}
+use Rattle.tao_base.specs.Tree.{node_at, node_count, path}
 use Rattle.tao_base.proofs.ImageLemmas.{bucket_joined}
 use Rattle.tao_base.proofs.TreeLemmas.{one_le_node}
 use Rattle.tao_bucket.specs.Encoding.{Encodes, format_of, tag_of}
@@ -24,17 +22,16 @@ use Rattle.tao_model.specs.Trace.{nodes_in}
 use Rattle.tao_model.proofs.FallingPaths.{has}
 use Rattle.tao_model.proofs.LawfulToWhole.{follows_opening}
 use Rattle.tao_model.proofs.NewestWrites.{newest_is_greatest}
-use Rattle.tao_laws.specs.Counted.{IsAllAcked}
 use Rattle.tao_laws.proofs.Listings.{has_filter, listed_at}
 use Rattle.tao_laws.proofs.RecentNodes.{leaf_low}
-use Rattle.tao_images.specs.Answers.{kept_tag, is_met, is_passed, AreFetched, AreScanned}
+use Rattle.tao_images.specs.Answers.{kept_tag, is_met, is_passed}
 use Rattle.tao_images.specs.Paths.{piece, IsReadFrom, AreReadFrom, HoldsLatest}
 use Rattle.tao_images.proofs.KnownLemmas.{node_within}
 use Rattle.tao_schedule.specs.Moves.{Move, is_served, served_version, server_version}
 use Rattle.tao_schedule.proofs.QuietServers.{server_is_newest}
 use Rattle.tao_schedule.proofs.ServerVersions.{stays_in_step}
 use Rattle.tao_tree.specs.Nodes.{TreeState, bytes_at, path_bytes}
-use Rattle.tao_world.specs.State.{Reading, Sending, is_set_at, row_at}
+use Rattle.tao_world.specs.State.{Reading, Sending, is_set_at}
 use Rattle.tao_world.specs.Shows.{IsSameBucket, IsWritten, Shows, ShowsFetch, ShowsReading}
 use Rattle.tao_world.specs.Laws.{HoldsNewest, IsNewestAnswer, AnswerIsNewest, LeafIsNewest, TreeIsNewest}
 use Rattle.tao_world.proofs.ServedReads.{on_path}

@@ -1,5 +1,5 @@
 -- Places that are made ready, and rooms of unread paths.
-use Rattle.std.proofs.Common.{replicate, Some, None, sym, ap, ◌∙◌, subst, arith, ◌≡◌, ℕ, List, ◌++◌, Option}
+use Rattle.std.proofs.Common.{replicate, Some, None, sym, ap, ◌∙◌, subst, arith, ℕ, List, ◌++◌, Option}
 use Rattle.std.proofs.lemmas.Bool.{true≢false}
 use Rattle.std.proofs.lemmas.List.{length-append, length-set}
 use Rattle.tao_base.specs.Tree.{node_at}

@@ -15,12 +15,17 @@ use Rattle.tao_images.specs.Answers.{with_event, AddsDone}
 use Rattle.tao_images.specs.Paths.{piece}
 use Rattle.tao_tree.specs.Nodes.{TreeState, empty_tree, bytes_at, applied, all_applied}
 use Rattle.tao_world.specs.State.{Reading, Sending, is_set_at, row_at}
+use Rattle.tao_base.specs.declared.storage.Bucket.{Bucket}
+
+-- the buckets of a version one behind another, in that version's format
+abbrev pub image_of : List ℕ → Shape → ℕ → List Bucket → List ℕ
+image_of key s version buckets = flat_map (encoded key s (format_of s.form version)) buckets
 
 -- A session opens: the load is applied to an empty tree, and no request is under way.
 pub record Opens (key : List ℕ) (o : Opening) (tree : TreeState) : Type 0 where
   pub opening : IsOpening o
   pub opens : OpensWithLoad o
-  pub loaded : tree ≡ all_applied (empty_tree o.shape) 0 (flat_map (encoded key o.shape (format_of o.shape.form 0)) o.loaded)
+  pub loaded : tree ≡ all_applied (empty_tree o.shape) 0 (image_of key o.shape 0 o.loaded)
 
 -- A table gets a row at a place: it is set there, or pushed if the table ends there.
 abbrev pub PutsRow : {X : Type 0} → ℕ → X → List (Option X) → List (Option X) → Type 0

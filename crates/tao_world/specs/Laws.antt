@@ -13,12 +13,14 @@ use Rattle.tao_images.specs.Honesty.{HasTagOf}
 use Rattle.tao_images.specs.Nodes.{Holds}
 use Rattle.tao_images.specs.Paths.{piece}
 use Rattle.tao_schedule.specs.Moves.{Move, Arrives, Serves, Completes, Applies, Acknowledges}
-use Rattle.tao_tree.specs.Nodes.{TreeState, path_bytes, version_at, bytes_at}
+use Rattle.tao_tree.specs.Nodes.{TreeState, path_bytes, version_at, bytes_at, all_applied}
 use Rattle.tao_held.specs.Held.{WritesHeld}
 use Rattle.tao_world.specs.State.{Reading, Sending, is_set_at, row_at}
 use Rattle.tao_world.specs.Shows.{IsSameBucket, Shows, InStep}
-use Rattle.tao_world.specs.Changes.{Opens, Arriving, Serving, Completing, Applying, Acknowledging}
+use Rattle.tao_world.specs.Changes.{Opens, Arriving, Serving, Completing, Applying, Acknowledging, image_of}
 use Rattle.tao_laws.specs.Counted.{IsAllAcked}
+use Rattle.tao_base.specs.Limits.{Shape, IsShape}
+use Rattle.tao_base.specs.Buckets.{IsInForm}
 
 -- ---- the moves
 
@@ -29,6 +31,11 @@ begun o = record { opening = o; events = [] }
 -- At the start no move was made; place 0 of the stores stays unused.
 abbrev pub OpensShows : Type 0
 OpensShows = (key : List ℕ) (o : Opening) (tree : TreeState) → Opens key o tree → Shows [] key (begun o) tree [] (None ∷ [])
+
+-- The load may be applied in parts.
+abbrev pub PartsJoin : Type 0
+PartsJoin = (key : List ℕ) (s : Shape) (version : ℕ) (first rest : List Bucket) (tree : TreeState) → IsShape s → tree.shape ≡ s → All (IsInForm s) first → All (IsInForm s) rest
+    → all_applied (all_applied tree version (image_of key s version first)) version (image_of key s version rest) ≡ all_applied tree version (image_of key s version (first ++ rest))
 
 -- More places show nothing.
 abbrev pub PlacesShow : Type 0

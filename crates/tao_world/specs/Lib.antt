@@ -2,3 +2,4 @@ pub mod State
 pub mod Shows
 pub mod Changes
 pub mod Laws
+pub mod Worked

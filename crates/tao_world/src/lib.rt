@@ -4,11 +4,11 @@
 
 mod moves;
 mod shown;
+mod worked;
 
 pub use moves::{
-    acknowledges_shows, applies_shows, arrives_shows, completes_shows, opens_shows, places_show,
-    room_shows, serves_shows,
+    acknowledges_shows, applies_shows, arrives_shows, completes_shows, opens_shows, parts_join,
+    places_show, room_shows, serves_shows,
 };
-pub use shown::{
-    answer_is_newest, leaf_is_newest, shows_in_step, tree_is_newest, whole_is_honest,
-};
+pub use shown::{answer_is_newest, leaf_is_newest, shows_in_step, tree_is_newest, whole_is_honest};
+pub use worked::worked_changes;

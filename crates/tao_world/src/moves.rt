@@ -1,9 +1,14 @@
 //! Laws: after each move, one move more is shown.
-ghost use Rattle.tao_world.specs.Laws.{OpensShows, PlacesShow, RoomShows, ArrivesShows, ServesShows, CompletesShows, AppliesShows, AcknowledgesShows};
+ghost use Rattle.tao_world.specs.Laws.{OpensShows, PartsJoin, PlacesShow, RoomShows, ArrivesShows, ServesShows, CompletesShows, AppliesShows, AcknowledgesShows};
 
 /// The load is what the server has before any move.
 pub fn opens_shows()
     ensures { OpensShows }
+{}
+
+/// It may be applied in parts.
+pub fn parts_join()
+    ensures { PartsJoin }
 {}
 
 /// Places that are made ready show nothing.
