@@ -11,3 +11,4 @@ pub mod NewestAnswers
 pub mod CompletedPaths
 pub mod LoadedTrees
 pub mod ShownSteps
+pub mod PlacedSteps

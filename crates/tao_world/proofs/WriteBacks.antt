@@ -41,7 +41,7 @@ pub record IsWriteBack (o : Opening) (events : List Event) (v : ℕ) (buckets : 
   pub in_form : All (IsInForm o.shape) buckets
   pub written : (w : ℕ) → written_at o events v w ≡ bucket_of w buckets
 
-issues_grow : (later es : List Event) → issues es ≤ issues (later ++ es)
+pub issues_grow : (later es : List Event) → issues es ≤ issues (later ++ es)
 issues_grow [] es = omega arith
 issues_grow (Arrive client op word ∷ later) es = issues_grow later es
 issues_grow (Done arrival taken ∷ later) es = issues_grow later es

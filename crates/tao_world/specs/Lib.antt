@@ -3,3 +3,4 @@ pub mod Shows
 pub mod Changes
 pub mod Laws
 pub mod Worked
+pub mod Steps
