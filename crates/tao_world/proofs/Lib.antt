@@ -12,3 +12,4 @@ pub mod CompletedPaths
 pub mod LoadedTrees
 pub mod ShownSteps
 pub mod PlacedSteps
+pub mod FlaggedMoves

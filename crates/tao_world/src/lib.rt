@@ -11,6 +11,6 @@ pub use moves::{
     acknowledges_shows, applies_shows, arrives_shows, completes_shows, opens_shows, parts_join,
     places_show, room_shows, serves_shows,
 };
-pub use placed::{store_has_nodes, tables_tell_misplaced};
+pub use placed::{flags_tell_moves, store_has_nodes, tables_tell_misplaced};
 pub use shown::{answer_is_newest, leaf_is_newest, shows_in_step, tree_is_newest, whole_is_honest};
 pub use worked::worked_changes;
