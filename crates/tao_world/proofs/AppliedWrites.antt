@@ -17,7 +17,7 @@ use Rattle.tao_schedule.specs.Moves.{Move, Applies, server_version, is_applied}
 use Rattle.tao_schedule.specs.Schedules.{Goes, IsSchedule}
 use Rattle.tao_tree.specs.Nodes.{TreeState, holding, held_at, held_version, version_at, bytes_at, bytes_of, is_newer, applied}
 use Rattle.tao_world.specs.State.{Sending, is_set_at, row_at}
-use Rattle.tao_world.specs.Shows.{IsWritten, Shows, ShowsNode, ShowsTree, ShowsStore, ShowsSending}
+use Rattle.tao_world.specs.Shows.{EncodesWritten, Shows, ShowsNode, ShowsTree, ShowsStore, ShowsSending}
 use Rattle.tao_world.specs.Changes.{with_put}
 use Rattle.tao_world.specs.Laws.{AppliesShows}
 use Rattle.tao_world.proofs.Tables.{some_within, rows_set, flag_set, left_set}
@@ -63,7 +63,7 @@ module _ (tree : TreeState) (v node : ℕ) (bytes : List ℕ) where
   other_bytes t w apart = ap₂ (λ s x. bytes_of (bucket_len s) x) (kept_shape t) (kept_other t w apart)
 
 module _ (ms : List Move) (key : List ℕ) (h : History) (tree : TreeState) (v node : ℕ) (bytes : List ℕ) (is : ShowsTree ms key h tree) (low : 1 ≤ node)
-    (written : IsWritten key h v node bytes) where
+    (written : EncodesWritten key h v node bytes) where
   -- the node itself: the greater version
   own : (t : Bool) → ShowsNode ms key h tree node → nat_lt (server_version ms node) v ≡ t → ShowsNode (Applies v node ∷ ms) key h (kept tree v node bytes t) node
   own true n newer =
@@ -71,15 +71,15 @@ module _ (ms : List Move) (key : List ℕ) (h : History) (tree : TreeState) (v n
       let now : server_version (Applies v node ∷ ms) node ≡ v = ap (λ t. cond t (max v (server_version ms node)) (server_version ms node)) (eq-eqb node node refl) ∙ max-eq_left (omega arith) in
       record {
         version = ap (option_map held_version) (new_held tree v node bytes (server_version ms node) n.version) ∙ sym (ap Some now);
-        bytes = subst (λ u. IsWritten key h u node (bytes_at (kept tree v node bytes true) node)) (sym now)
-            (subst (IsWritten key h v node) (sym (new_bytes tree v node bytes (server_version ms node) n.version)) written);
+        bytes = subst (λ u. EncodesWritten key h u node (bytes_at (kept tree v node bytes true) node)) (sym now)
+            (subst (EncodesWritten key h v node) (sym (new_bytes tree v node bytes (server_version ms node) n.version)) written);
       }
   own false n older =
       let more = ltb-false (server_version ms node) v older in
       let now : server_version (Applies v node ∷ ms) node ≡ server_version ms node =
       ap (λ t. cond t (max v (server_version ms node)) (server_version ms node)) (eq-eqb node node refl) ∙ max-eq_right (omega arith)
       in
-      record { version = n.version ∙ sym (ap Some now); bytes = subst (λ u. IsWritten key h u node (bytes_at tree node)) (sym now) n.bytes }
+      record { version = n.version ∙ sym (ap Some now); bytes = subst (λ u. EncodesWritten key h u node (bytes_at tree node)) (sym now) n.bytes }
 
   other : (t : Bool) (w : ℕ) → 1 ≤ w → (w ≡ node → ⊥) → ShowsNode ms key h tree w → ShowsNode (Applies v node ∷ ms) key h (kept tree v node bytes t) w
   other t w some apart n =
@@ -89,7 +89,7 @@ module _ (ms : List Move) (key : List ℕ) (h : History) (tree : TreeState) (v n
       in
       record {
         version = ap (option_map held_version) (kept_other tree v node bytes t w places) ∙ n.version ∙ sym (ap Some now);
-        bytes = subst (λ u. IsWritten key h u w (bytes_at (kept tree v node bytes t) w)) (sym now) (subst (IsWritten key h (server_version ms w) w) (sym (other_bytes tree v node bytes t w places)) n.bytes);
+        bytes = subst (λ u. EncodesWritten key h u w (bytes_at (kept tree v node bytes t) w)) (sym now) (subst (EncodesWritten key h (server_version ms w) w) (sym (other_bytes tree v node bytes t w places)) n.bytes);
       }
 
   tree_kept : ShowsNode ms key h tree node → ShowsTree (Applies v node ∷ ms) key h (applied tree v node bytes)
@@ -170,6 +170,6 @@ applies_shows ms key h tree tree' fetches stores stores' v j sending shows a =
     places : (1 ≤ node) × (node ≤ node_count h.opening.shape.l)
     places = node_within key h shows.lawful.follows sending.order.version sending.order.nonce row.order.0 sending.order back row.order.2 j a.within nothing
 
-    bytes : IsWritten key h v node (piece h.opening.shape sending.order.image j)
-    bytes = subst (λ u. IsWritten key h u node (piece h.opening.shape sending.order.image j)) row.version
+    bytes : EncodesWritten key h v node (piece h.opening.shape sending.order.image j)
+    bytes = subst (λ u. EncodesWritten key h u node (piece h.opening.shape sending.order.image j)) row.version
         (sent_bytes key h shows.lawful.follows sending.order.version sending.order.nonce row.order.0 sending.order back row.order.2 j a.within nothing)

@@ -1,13 +1,10 @@
 -- The moves of steps that read all buckets or put all nodes.
-use Rattle.std.proofs.Common.{◌≡◌, ℕ, zero, suc, ◌+◌, ◌<◌, ◌≤◌, Bool, true, false, not, cond, List, [], ◌∷◌, map, filter, reverse, length, get_or, Option, Some, None, refl, sym, ap, ap₂, ◌∙◌, subst, arith}
+use Rattle.std.proofs.Common.{◌≡◌, ℕ, zero, suc, ◌+◌, ◌<◌, ◌≤◌, Bool, true, false, not, List, [], ◌∷◌, map, filter, length, get_or, refl, sym, ap, ap₂, ◌∙◌, subst, arith}
 use Rattle.std.specs.List.{range_with_len}
-use Rattle.tao_base.specs.Session.{History}
 use Rattle.tao_base.specs.Tree.{node_at, path}
-use Rattle.tao_model.specs.Requests.{fetched_leaf}
-use Rattle.tao_text.specs.declared.script.What.{What}
-use Rattle.tao_schedule.specs.Moves.{Move, Serves, Applies, nodes_issued, is_served, is_applied}
+use Rattle.tao_schedule.specs.Moves.{Serves, Applies, is_served, is_applied}
 use Rattle.tao_schedule.specs.Steps.{moves_of}
-use Rattle.tao_world.specs.State.{Reading, Sending, is_set_at, row_at}
+use Rattle.tao_world.specs.State.{is_set_at}
 use Rattle.tao_world.specs.Shows.{ShowsFetch, ShowsReading, ShowsStore, ShowsSending}
 use Rattle.tao_world.specs.Steps.{FlagsTellMoves}
 use Rattle.tao_world.proofs.PlacedSteps.{store_has_nodes}

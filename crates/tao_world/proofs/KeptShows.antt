@@ -16,7 +16,7 @@ use Rattle.tao_schedule.specs.Moves.{Move, server_version, is_served, served_ver
 use Rattle.tao_schedule.proofs.ServerVersions.{under_parts}
 use Rattle.tao_tree.specs.Nodes.{TreeState, bytes_at}
 use Rattle.tao_world.specs.State.{Reading, Sending}
-use Rattle.tao_world.specs.Shows.{IsWritten, ShowsTree, ShowsFetch, ShowsStore}
+use Rattle.tao_world.specs.Shows.{EncodesWritten, ShowsTree, ShowsFetch, ShowsStore}
 use Rattle.tao_world.proofs.WrittenBuckets.{still_written}
 
 -- a number that isn't the next one is below it if it is below the one before
@@ -35,7 +35,7 @@ module _ (ms later : List Move) (key : List ℕ) (h : History) where
     shape = is.shape;
     nodes = λ w low high. let n = is.nodes w low high in record {
       version = n.version ∙ sym (ap Some (same w));
-      bytes = subst (λ v. IsWritten key h v w (bytes_at tree w)) (sym (same w)) n.bytes;
+      bytes = subst (λ v. EncodesWritten key h v w (bytes_at tree w)) (sym (same w)) n.bytes;
     };
   }
 
@@ -48,7 +48,7 @@ module _ (ms later : List Move) (key : List ℕ) (h : History) where
     leaf = is.leaf;
     read = λ d within. is.read d within ∙ sym (served (node_at h.opening.shape.l reading.leaf d));
     bytes = λ d within set.
-        subst (λ v. IsWritten key h v (node_at h.opening.shape.l reading.leaf d) (piece h.opening.shape reading.bytes d)) (sym (version (node_at h.opening.shape.l reading.leaf d)))
+        subst (λ v. EncodesWritten key h v (node_at h.opening.shape.l reading.leaf d) (piece h.opening.shape reading.bytes d)) (sym (version (node_at h.opening.shape.l reading.leaf d)))
         (is.bytes d within set);
   }
 

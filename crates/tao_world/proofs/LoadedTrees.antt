@@ -8,6 +8,7 @@ use Rattle.std.proofs.lemmas.Bool.{and_left, and_right, le-ltb, lt-leb, cases_lt
 use Rattle.std.proofs.lemmas.List.{append-nil, take_at, drop_at, drop-drop, length-map, get_or-map, length-replicate, length-set, get_or-set_same, get_or-set_other, get_or-replicate, get_or_past}
 use Rattle.std.proofs.lemmas.List.FromFn.{get_or-range_with_len, length-range_with_len}
 use Rattle.std.proofs.lemmas.List.Elements.{All-head, All-tail, All-append}
+use Rattle.std.proofs.lemmas.List.Sums.{fold-append}
 use Rattle.tao_base.specs.declared.storage.Bucket.{Bucket}
 use Rattle.tao_base.specs.Buckets.{IsInForm}
 use Rattle.tao_base.specs.Images.{bucket_in, buckets_in}
@@ -31,7 +32,6 @@ use Rattle.tao_world.specs.Changes.{Opens}
 use Rattle.tao_world.specs.Laws.{OpensShows, begun, PartsJoin}
 use Rattle.tao_world.proofs.WriteBacks.{found_at}
 use Rattle.tao_world.proofs.AppliedWrites.{kept_shape}
-use Rattle.std.proofs.lemmas.List.Sums.{fold-append}
 
 -- ---- an image cut into its buckets
 

@@ -32,7 +32,7 @@ use Rattle.tao_schedule.proofs.QuietServers.{server_is_newest}
 use Rattle.tao_schedule.proofs.ServerVersions.{stays_in_step}
 use Rattle.tao_tree.specs.Nodes.{TreeState, bytes_at, path_bytes}
 use Rattle.tao_world.specs.State.{Reading, Sending, is_set_at}
-use Rattle.tao_world.specs.Shows.{IsSameBucket, IsWritten, Shows, ShowsFetch, ShowsReading}
+use Rattle.tao_world.specs.Shows.{IsSameBucket, EncodesWritten, Shows, ShowsFetch, ShowsReading}
 use Rattle.tao_world.specs.Laws.{HoldsNewest, IsNewestAnswer, AnswerIsNewest, LeafIsNewest, TreeIsNewest}
 use Rattle.tao_world.proofs.ServedReads.{on_path}
 use Rattle.tao_world.proofs.WrittenBuckets.{written_fine, written_encodes, written_len}
@@ -40,7 +40,7 @@ use Rattle.tao_world.proofs.WrittenBuckets.{written_fine, written_encodes, writt
 -- ---- one node
 
 -- what was written under the latest version is the latest version
-newest_held : (key : List ℕ) (h : History) (v node : ℕ) (bytes : List ℕ) → IsLawful h → IsWritten key h v node bytes → v ≡ newest_version (reverse h.events) node → HoldsNewest key h node bytes
+newest_held : (key : List ℕ) (h : History) (v node : ℕ) (bytes : List ℕ) → IsLawful h → EncodesWritten key h v node bytes → v ≡ newest_version (reverse h.events) node → HoldsNewest key h node bytes
 newest_held key h v node bytes lawful is same =
     let fine = written_fine h v node is.0 lawful is.1 in
     let newest : newest_write h.opening (reverse h.events) node ≡ Some is.0 =
@@ -109,7 +109,7 @@ module _ (ms : List Move) (key : List ℕ) (h : History) (tree : TreeState) (fet
   fetched_newest d within away =
       let node = node_at h.opening.shape.l leaf d in
       newest_held key h (served_version ms i node) node (piece h.opening.shape reading.bytes d) shows.lawful
-      (subst (λ x. IsWritten key h (served_version ms i (node_at h.opening.shape.l x d)) (node_at h.opening.shape.l x d) (piece h.opening.shape reading.bytes d)) row.leaf (row.bytes d within (whole d within)))
+      (subst (λ x. EncodesWritten key h (served_version ms i (node_at h.opening.shape.l x d)) (node_at h.opening.shape.l x d) (piece h.opening.shape reading.bytes d)) row.leaf (row.bytes d within (whole d within)))
       ((stays_in_step h.opening ms (reverse h.events) node shows.schedule shows.lawful.follows).served i row.under_way (on_path h.opening.shape.l leaf d (leaf_low h.opening (reverse h.events) i) within)
       (all_read d within) away)
 

@@ -1,5 +1,5 @@
 -- The tables tell which steps may come. The events `es` are newest first.
-use Rattle.std.proofs.Common.{◌≡◌, ℕ, zero, suc, ◌+◌, ◌<◌, ◌≤◌, Bool, true, false, not, ◌&&◌, cond, List, [], ◌∷◌, ◌++◌, map, reverse, length, get_or, take, drop, Contains, Option, Some, None, is_some, refl, sym, ap, ap₂, ◌∙◌, subst, arith, nat_eq}
+use Rattle.std.proofs.Common.{◌≡◌, ℕ, zero, suc, ◌+◌, ◌<◌, ◌≤◌, Bool, true, false, not, ◌&&◌, cond, List, [], ◌∷◌, ◌++◌, reverse, length, get_or, take, drop, Contains, Option, Some, None, is_some, refl, sym, ap, ap₂, ◌∙◌, subst, arith, nat_eq}
 use Rattle.std.specs.Prelude.{count_by}
 use Rattle.std.specs.List.{list_all, list_any, range_with_len}
 use Rattle.std.proofs.Math.Seq.{split_at}
@@ -24,9 +24,8 @@ use Rattle.tao_laws.proofs.Listings.{listed_at, place_in, at_place}
 use Rattle.tao_text.specs.declared.script.What.{What}
 use Rattle.tao_schedule.specs.Moves.{Move, nodes_issued, is_served, is_applied}
 use Rattle.tao_schedule.specs.Steps.{is_misplaced}
-use Rattle.tao_tree.specs.Nodes.{TreeState}
 use Rattle.tao_world.specs.State.{Reading, Sending, is_set_at, row_at}
-use Rattle.tao_world.specs.Shows.{Shows, ShowsFetch, ShowsReading, ShowsStore, ShowsSending}
+use Rattle.tao_world.specs.Shows.{ShowsFetch, ShowsStore, ShowsSending}
 use Rattle.tao_world.specs.Steps.{passes, is_whole, has_left, may_come, TablesTellMisplaced, StoreHasNodes}
 use Rattle.tao_world.proofs.WriteBacks.{IsWriteBack, made, order_nodes, issues_grow}
 

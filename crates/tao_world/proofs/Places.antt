@@ -3,13 +3,13 @@ use Rattle.std.proofs.Common.{replicate, Some, None, sym, ap, ◌∙◌, subst, 
 use Rattle.std.proofs.lemmas.Bool.{true≢false}
 use Rattle.std.proofs.lemmas.List.{length-append, length-set}
 use Rattle.tao_base.specs.Tree.{node_at}
+use Rattle.tao_base.specs.Session.{History}
 use Rattle.tao_schedule.specs.Moves.{is_served, Move}
+use Rattle.tao_tree.specs.Nodes.{TreeState}
 use Rattle.tao_world.specs.Shows.{ShowsFetch, ShowsReading, ShowsStore, Shows}
 use Rattle.tao_world.specs.Laws.{PlacesShow, RoomShows}
 use Rattle.tao_world.proofs.Tables.{some_within, rows_set, rows_more}
 use Rattle.tao_world.specs.State.{Reading, Sending}
-use Rattle.tao_base.specs.Session.{History}
-use Rattle.tao_tree.specs.Nodes.{TreeState}
 
 module _ (ms : List Move) (key : List ℕ) (h : History) (tree : TreeState) (fetches : List (Option Reading)) (stores : List (Option Sending)) (more : ℕ)
     (shows : Shows ms key h tree fetches stores) where

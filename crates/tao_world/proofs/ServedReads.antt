@@ -16,7 +16,7 @@ use Rattle.tao_schedule.specs.Moves.{Move, Serves, server_version, is_served, se
 use Rattle.tao_schedule.specs.Schedules.{Goes, IsSchedule}
 use Rattle.tao_tree.specs.Nodes.{TreeState, bytes_at}
 use Rattle.tao_world.specs.State.{Reading, is_set_at, row_at}
-use Rattle.tao_world.specs.Shows.{IsWritten, Shows, ShowsNode, ShowsFetch, ShowsReading}
+use Rattle.tao_world.specs.Shows.{EncodesWritten, Shows, ShowsNode, ShowsFetch, ShowsReading}
 use Rattle.tao_world.specs.Changes.{with_bucket, bucket_put}
 use Rattle.tao_world.specs.Laws.{ServesShows}
 use Rattle.tao_world.proofs.Tables.{some_within, rows_set, flag_set, put_here, put_other}
@@ -70,7 +70,7 @@ module _ (ms : List Move) (key : List ℕ) (h : History) (tree : TreeState) (i d
       omega (arith, up, next, bytes)
 
   module _ (bucket : List ℕ) (long : length bucket ≡ bucket_len h.opening.shape)
-      (is : IsWritten key h (server_version ms (node_at h.opening.shape.l reading.leaf d)) (node_at h.opening.shape.l reading.leaf d) bucket) where
+      (is : EncodesWritten key h (server_version ms (node_at h.opening.shape.l reading.leaf d)) (node_at h.opening.shape.l reading.leaf d) bucket) where
     read : (e : ℕ) → e ≤ h.opening.shape.l → (d ≡ e) ⊎ (d ≡ e → ⊥) → is_set_at (set reading.read d true) e ≡ is_served (Serves i (node d) ∷ ms) i (node e)
     read e within (inl same) =
         flag e ∙ ap (λ t. cond t true (is_set_at reading.read e)) (eq-eqb d e same)
@@ -80,17 +80,17 @@ module _ (ms : List Move) (key : List ℕ) (h : History) (tree : TreeState) (i d
         ∙ sym (ap₂ (λ t u. (t && u) || is_served ms i (node e)) (eq-eqb i i refl) (ne_eqb (node d) (node e) (λ same. other (same_depth h.opening.shape.l reading.leaf d e small depth within same))))
 
     held : (e : ℕ) → e ≤ h.opening.shape.l → (d ≡ e) ⊎ (d ≡ e → ⊥) → is_set_at (set reading.read d true) e ≡ true
-        → IsWritten key h (served_version (Serves i (node d) ∷ ms) i (node e)) (node e) (piece h.opening.shape (bucket_put (bucket_len h.opening.shape) reading.bytes d bucket) e)
+        → EncodesWritten key h (served_version (Serves i (node d) ∷ ms) i (node e)) (node e) (piece h.opening.shape (bucket_put (bucket_len h.opening.shape) reading.bytes d bucket) e)
     held e within (inl same) on =
-        subst (λ v. IsWritten key h v (node e) (piece h.opening.shape (bucket_put (bucket_len h.opening.shape) reading.bytes d bucket) e))
+        subst (λ v. EncodesWritten key h v (node e) (piece h.opening.shape (bucket_put (bucket_len h.opening.shape) reading.bytes d bucket) e))
         (sym (ap₂ (λ t u. cond (t && u) (server_version ms (node e)) (served_version ms i (node e))) (eq-eqb i i refl) (eq-eqb (node d) (node e) (ap node same))))
-        (subst (λ c. IsWritten key h (server_version ms (node c)) (node c) (piece h.opening.shape (bucket_put (bucket_len h.opening.shape) reading.bytes d bucket) c)) same
-        (subst (IsWritten key h (server_version ms (node d)) (node d)) (sym (put_here (bucket_len h.opening.shape) reading.bytes d bucket long within_bytes)) is))
+        (subst (λ c. EncodesWritten key h (server_version ms (node c)) (node c) (piece h.opening.shape (bucket_put (bucket_len h.opening.shape) reading.bytes d bucket) c)) same
+        (subst (EncodesWritten key h (server_version ms (node d)) (node d)) (sym (put_here (bucket_len h.opening.shape) reading.bytes d bucket long within_bytes)) is))
     held e within (inr other) on =
-        subst (λ v. IsWritten key h v (node e) (piece h.opening.shape (bucket_put (bucket_len h.opening.shape) reading.bytes d bucket) e))
+        subst (λ v. EncodesWritten key h v (node e) (piece h.opening.shape (bucket_put (bucket_len h.opening.shape) reading.bytes d bucket) e))
         (sym (ap₂ (λ t u. cond (t && u) (server_version ms (node e)) (served_version ms i (node e))) (eq-eqb i i refl)
         (ne_eqb (node d) (node e) (λ same. other (same_depth h.opening.shape.l reading.leaf d e small depth within same)))))
-        (subst (IsWritten key h (served_version ms i (node e)) (node e)) (sym (put_other (bucket_len h.opening.shape) reading.bytes d bucket long within_bytes e (λ same. other (sym same))))
+        (subst (EncodesWritten key h (served_version ms i (node e)) (node e)) (sym (put_other (bucket_len h.opening.shape) reading.bytes d bucket long within_bytes e (λ same. other (sym same))))
         (row.bytes e within (sym (flag e ∙ ap (λ t. cond t true (is_set_at reading.read e)) (ne_eqb d e other)) ∙ on)))
 
     pub own : ShowsReading (Serves i (node_at h.opening.shape.l reading.leaf d) ∷ ms) key h i (with_bucket h.opening.shape reading d bucket)

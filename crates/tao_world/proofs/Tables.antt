@@ -6,9 +6,9 @@ use Rattle.std.proofs.lemmas.List.{get_or-set_same, get_or-set_other, get_or_pas
 use Rattle.std.proofs.lemmas.Slice.{drop-append-drop}
 use Rattle.std.proofs.lemmas.List.Sums.{sum_by-set, sum_by-cons}
 use Rattle.std.proofs.lemmas.List.Folds.{sum_by-replicate}
+use Rattle.std.proofs.Math.Seq.{set-append_seam}
 use Rattle.tao_world.specs.State.{is_set_at, row_at}
 use Rattle.tao_world.specs.Changes.{bucket_put, PutsRow}
-use Rattle.std.proofs.Math.Seq.{set-append_seam}
 
 -- ---- rows
 

@@ -29,7 +29,7 @@ use Rattle.tao_laws.proofs.RecentNodes.{bucket_in}
 use Rattle.tao_images.specs.Orders.{IsOrderOf}
 use Rattle.tao_images.specs.Paths.{piece}
 use Rattle.tao_images.proofs.OrderLemmas.{length_encoded, lengths}
-use Rattle.tao_world.specs.Shows.{IsWritten}
+use Rattle.tao_world.specs.Shows.{EncodesWritten}
 
 -- ---- one write-back
 
@@ -142,7 +142,7 @@ module _ (key : List ℕ) (h : History) (follows : FollowsLawfully h.opening (re
     node_within = (subst (λ w. 1 ≤ w) (sym node_is) form.low, subst (λ w. w ≤ node_count h.opening.shape.l) (sym node_is) form.high)
 
     -- the bytes of its bucket in the order are what was written at its node
-    pub sent_bytes : IsWritten key h v (get_or order.nodes j 0) (piece h.opening.shape order.image j)
+    pub sent_bytes : EncodesWritten key h v (get_or order.nodes j 0) (piece h.opening.shape order.image j)
     sent_bytes = (
       get_or buckets j d,
       is.written (get_or order.nodes j 0) ∙ ap (λ w. bucket_of w buckets) node_is ∙ found_at buckets j d is.once within,

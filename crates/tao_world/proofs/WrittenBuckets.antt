@@ -27,7 +27,7 @@ use Rattle.tao_model.proofs.NewestWrites.{versions_listed}
 use Rattle.tao_laws.proofs.CountedWork.{work_from}
 use Rattle.tao_tables.proofs.KeptWrites.{nonces_are_few}
 use Rattle.tao_images.specs.Answers.{with_event}
-use Rattle.tao_world.specs.Shows.{IsWritten}
+use Rattle.tao_world.specs.Shows.{EncodesWritten}
 
 -- ---- what was written stays
 
@@ -43,7 +43,7 @@ written_grows o events later v node b is =
     ap (λ l. bucket_of node (get_or (o.loaded ∷ l) v [])) (filter_map-append buckets_of events later)
     ∙ ap (bucket_of node) (get_or_append_left (written o events) (filter_map buckets_of later) [] v (written_within o events v node b is)) ∙ is
 
-pub still_written : (key : List ℕ) (h : History) (e : Event) (v node : ℕ) (bytes : List ℕ) → IsWritten key h v node bytes → IsWritten key (with_event h e) v node bytes
+pub still_written : (key : List ℕ) (h : History) (e : Event) (v node : ℕ) (bytes : List ℕ) → EncodesWritten key h v node bytes → EncodesWritten key (with_event h e) v node bytes
 still_written key h e v node bytes is = (is.0, written_grows h.opening h.events (e ∷ []) v node is.0 is.1, is.2)
 
 -- ---- its form

@@ -7,15 +7,15 @@ use Rattle.tao_base.specs.declared.storage.Order.{Order}
 use Rattle.tao_base.specs.Limits.{Shape, bucket_len}
 use Rattle.tao_base.specs.Session.{Opening, History}
 use Rattle.tao_base.specs.Tree.{node_at}
+use Rattle.tao_base.specs.declared.storage.Bucket.{Bucket}
+use Rattle.tao_bucket.specs.Encoding.{encoded, format_of}
 use Rattle.tao_model.specs.Events.{arrived}
 use Rattle.tao_model.specs.Requests.{fetched_leaf}
 use Rattle.tao_model.specs.Lawful.{IsOpening, OpensWithLoad, IsLawful}
-use Rattle.tao_bucket.specs.Encoding.{encoded, format_of}
 use Rattle.tao_images.specs.Answers.{with_event, AddsDone}
 use Rattle.tao_images.specs.Paths.{piece}
 use Rattle.tao_tree.specs.Nodes.{TreeState, empty_tree, bytes_at, applied, all_applied}
 use Rattle.tao_world.specs.State.{Reading, Sending, is_set_at, row_at}
-use Rattle.tao_base.specs.declared.storage.Bucket.{Bucket}
 
 -- the buckets of a version one behind another, in that version's format
 abbrev pub image_of : List ℕ → Shape → ℕ → List Bucket → List ℕ
@@ -66,7 +66,7 @@ abbrev pub AddsStore : Option Order → List (Option Sending) → List (Option S
 AddsStore None stores stores' = stores' ≡ stores
 AddsStore (Some order) stores stores' = PutsRow order.version (new_sending order) stores stores'
 
--- A path that was read whole is taken in, and its row is emptied. If a write-back follows, its store gets a row.
+-- A path that was read whole is admitted, and its row is emptied. If a write-back follows, its store gets a row.
 pub record Completing (key : List ℕ) (old new : History) (i : ℕ) (reading : Reading) (order : Option Order)
     (fetches fetches' : List (Option Reading)) (stores stores' : List (Option Sending)) : Type 0 where
   pub found : row_at fetches i ≡ Some reading

@@ -6,21 +6,21 @@ use Rattle.tao_base.specs.declared.storage.Bucket.{Bucket}
 use Rattle.tao_base.specs.declared.storage.Order.{Order}
 use Rattle.tao_base.specs.Session.{Opening, History}
 use Rattle.tao_base.specs.Tree.{node_at, node_count}
+use Rattle.tao_base.specs.Limits.{Shape, IsShape}
+use Rattle.tao_base.specs.Buckets.{IsInForm}
 use Rattle.tao_model.specs.Requests.{fetched_leaf}
 use Rattle.tao_model.specs.Residence.{is_resident, newest_version, newest_write, Unaltered, HasEntriesOf}
+use Rattle.tao_held.specs.Held.{WritesHeld}
+use Rattle.tao_laws.specs.Counted.{IsAllAcked}
 use Rattle.tao_images.specs.Answers.{kept_tag, IsAnswered, AreFetched, IsUnaltered, IsLeafAnswered, AreScanned}
 use Rattle.tao_images.specs.Honesty.{HasTagOf}
 use Rattle.tao_images.specs.Nodes.{Holds}
 use Rattle.tao_images.specs.Paths.{piece}
 use Rattle.tao_schedule.specs.Moves.{Move, Arrives, Serves, Completes, Applies, Acknowledges}
 use Rattle.tao_tree.specs.Nodes.{TreeState, path_bytes, version_at, bytes_at, all_applied}
-use Rattle.tao_held.specs.Held.{WritesHeld}
 use Rattle.tao_world.specs.State.{Reading, Sending, is_set_at, row_at}
 use Rattle.tao_world.specs.Shows.{IsSameBucket, Shows, InStep}
 use Rattle.tao_world.specs.Changes.{Opens, Arriving, Serving, Completing, Applying, Acknowledging, image_of}
-use Rattle.tao_laws.specs.Counted.{IsAllAcked}
-use Rattle.tao_base.specs.Limits.{Shape, IsShape}
-use Rattle.tao_base.specs.Buckets.{IsInForm}
 
 -- ---- the moves
 
@@ -42,7 +42,7 @@ abbrev pub PlacesShow : Type 0
 PlacesShow = (ms : List Move) (key : List ℕ) (h : History) (tree : TreeState) (fetches : List (Option Reading)) (stores : List (Option Sending)) (more more' : ℕ)
     → Shows ms key h tree fetches stores → Shows ms key h tree (fetches ++ replicate more None) (stores ++ replicate more' None)
 
--- a fetch of the same leaf of which nothing was read, either: only its room is another
+-- a fetch of the same leaf, in another room; of neither was anything read
 pub record IsStillUnread (reading room : Reading) : Type 0 where
   pub arrival : room.arrival ≡ reading.arrival
   pub leaf : room.leaf ≡ reading.leaf
@@ -121,7 +121,7 @@ TreeIsNewest = (ms : List Move) (key : List ℕ) (h : History) (tree : TreeState
     → Shows ms key h tree fetches stores → IsAllAcked (reverse h.events) → 1 ≤ node → node ≤ node_count h.opening.shape.l
     → (version_at tree node ≡ Some (newest_version (reverse h.events) node)) × HoldsNewest key h node (bytes_at tree node)
 
--- What a player shows is in step, if its write-backs are true.
+-- What a player shows is in step if the proxy wrote what it held.
 abbrev pub ShowsInStep : Type 0
 ShowsInStep = (ms : List Move) (key : List ℕ) (h : History) (tree : TreeState) (fetches : List (Option Reading)) (stores : List (Option Sending))
     → Shows ms key h tree fetches stores → WritesHeld h.opening (reverse h.events) → InStep key h tree fetches stores
@@ -133,6 +133,6 @@ pub record IsHonest (key : List ℕ) (h : History) : Type 0 where
   pub tags : Unaltered (HasTagOf key h.opening.shape) h.opening (reverse h.events)
   pub by_test : (test : Bucket → Bucket → Bool) → ((bucket : Bucket) → test bucket bucket ≡ true) → Unaltered (λ x y. test x y ≡ true) h.opening (reverse h.events)
 
--- Answers that are the very buckets are.
+-- Answers that hold the very buckets that were written are honest in all these senses.
 abbrev pub WholeIsHonest : Type 0
 WholeIsHonest = (key : List ℕ) (h : History) → Unaltered IsSameBucket h.opening (reverse h.events) → IsHonest key h

@@ -3,6 +3,7 @@ use Rattle.std.specs.Prelude.{◌≡◌, ℕ, ◌<◌, ◌≤◌, true, false, n
 use Rattle.tao_base.specs.declared.storage.Bucket.{Bucket}
 use Rattle.tao_base.specs.Session.{History}
 use Rattle.tao_base.specs.Tree.{node_at, node_count}
+use Rattle.tao_bucket.specs.Encoding.{encoded, format_of}
 use Rattle.tao_model.specs.Events.{arrived, issues, has_fault, is_under_way, is_outstanding}
 use Rattle.tao_model.specs.Requests.{fetched_leaf, position}
 use Rattle.tao_model.specs.Residence.{Unaltered}
@@ -11,7 +12,6 @@ use Rattle.tao_model.specs.Lawful.{IsLawful}
 use Rattle.tao_model.specs.FreshCopy.{FreshCopy}
 use Rattle.tao_laws.specs.SettledValues.{settled_value}
 use Rattle.tao_fresh.specs.FreshLaws.{FreshWritesOf, present}
-use Rattle.tao_bucket.specs.Encoding.{encoded, format_of}
 use Rattle.tao_images.specs.Orders.{IsIssued}
 use Rattle.tao_images.specs.Paths.{piece}
 use Rattle.tao_schedule.specs.Moves.{Move, server_version, is_served, served_version, is_applied}
@@ -25,16 +25,16 @@ abbrev pub IsSameBucket : Bucket → Bucket → Type 0
 IsSameBucket bucket written = bucket ≡ written
 
 -- The bytes are the bucket that was written at a node under a version, encoded in that version's format.
-abbrev pub IsWritten : List ℕ → History → ℕ → ℕ → List ℕ → Type 0
-IsWritten key h version node bytes = (bucket : Bucket) × (written_at h.opening h.events version node ≡ Some bucket)
+abbrev pub EncodesWritten : List ℕ → History → ℕ → ℕ → List ℕ → Type 0
+EncodesWritten key h version node bytes = (bucket : Bucket) × (written_at h.opening h.events version node ≡ Some bucket)
     × (bytes ≡ encoded key h.opening.shape (format_of h.opening.shape.form version) bucket)
 
--- a node of the tree has the server's version
+-- the tree has the server's version of a node
 pub record ShowsNode (ms : List Move) (key : List ℕ) (h : History) (tree : TreeState) (node : ℕ) : Type 0 where
   pub version : version_at tree node ≡ Some (server_version ms node)
-  pub bytes : IsWritten key h (server_version ms node) node (bytes_at tree node)
+  pub bytes : EncodesWritten key h (server_version ms node) node (bytes_at tree node)
 
--- each node of the tree has
+-- so has every node of the tree
 pub record ShowsTree (ms : List Move) (key : List ℕ) (h : History) (tree : TreeState) : Type 0 where
   pub shape : tree.shape ≡ h.opening.shape
   pub nodes : (node : ℕ) → 1 ≤ node → node ≤ node_count h.opening.shape.l → ShowsNode ms key h tree node
@@ -46,7 +46,7 @@ pub record ShowsReading (ms : List Move) (key : List ℕ) (h : History) (i : ℕ
   pub leaf : reading.leaf ≡ fetched_leaf h.opening (reverse h.events) i
   pub read : (d : ℕ) → d ≤ h.opening.shape.l → is_set_at reading.read d ≡ is_served ms i (node_at h.opening.shape.l reading.leaf d)
   pub bytes : (d : ℕ) → d ≤ h.opening.shape.l → is_set_at reading.read d ≡ true
-      → IsWritten key h (served_version ms i (node_at h.opening.shape.l reading.leaf d)) (node_at h.opening.shape.l reading.leaf d) (piece h.opening.shape reading.bytes d)
+      → EncodesWritten key h (served_version ms i (node_at h.opening.shape.l reading.leaf d)) (node_at h.opening.shape.l reading.leaf d) (piece h.opening.shape reading.bytes d)
 
 -- the row of an arrival: a fetch exactly if it is under way
 abbrev pub ShowsFetch : List Move → List ℕ → History → ℕ → Option Reading → Type 0

@@ -16,7 +16,7 @@ pub fn places_show()
     ensures { PlacesShow }
 {}
 
-/// Nor does the room for a path, as long as nothing was read.
+/// Nor does the room for a path as long as nothing was read.
 pub fn room_shows()
     ensures { RoomShows }
 {}

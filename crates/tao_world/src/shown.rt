@@ -21,7 +21,7 @@ pub fn shows_in_step()
     ensures { ShowsInStep }
 {}
 
-/// Whole buckets are honest in every sense that a store may have.
+/// Answers that hold the very buckets that were written are honest in every sense that a store may have.
 pub fn whole_is_honest()
     ensures { WholeIsHonest }
 {}
