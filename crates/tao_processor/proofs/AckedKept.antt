@@ -17,6 +17,7 @@ use Rattle.tao_model.specs.WholeRecords.{IsAt}
 use Rattle.tao_model.specs.Lawful.{FollowsLawfully, MayFollow}
 use Rattle.tao_model.specs.OneMore.{with_one_more}
 use Rattle.tao_model.proofs.Stays.{newest_first}
+use Rattle.tao_processor.proofs.TagsKept.{tags_go_on}
 use Rattle.tao_held.specs.Held.{held}
 use Rattle.tao_held.proofs.HeldSteps.{away_is_empty}
 use Rattle.tao_tables.specs.Flags.{TellsFlags, IsFree}
@@ -190,9 +191,11 @@ acked_keeps {x} {version} {nonce} {buckets} {session} {h} {marks} is ready at ad
       flags = subst (λ (fs : List Bool). TellsFlags o now x.done_flags fs) (sym mark) ((flags_are_told o events x.done_flags x.acked_flags is.flags).acked version ready.lawful);
       fetched = (rows_are_told o events x.row_count _ _ is.fetched).acked version;
       writes = (writes_are_told o events x.recent x.places x.done_count x.issue_count x.ack_count x.next_nonce is.writes).acked version;
+      tagged = (tags_go_on x.key o events x.tags is.tagged).acked version;
       pools = subst (λ (later : List Event). HasPools x.shape x.ready (arrived later) (dones later) (issues later) (acks later) (record (pools_of x) { others = x.session.others - 1 }))
           (sym (newest_first events (Acked version))) ready.room.left;
       blocks = is.blocks;
+      order_rooms = is.order_rooms;
       recent_fits = is.recent_fits;
       written_fits = is.written_fits;
       written_empty = is.written_empty;

@@ -34,6 +34,7 @@ use Rattle.tao_processor.specs.declared.fetches.Fetch.{Fetch}
 use Rattle.tao_processor.specs.Steps.{leaf_now}
 use Rattle.tao_processor.specs.Groups.{Parts, IsProcessor, NodesAre, pools_of, no_row, row_leaf, row_word}
 use Rattle.tao_processor.proofs.DoneReady.{leaf_small}
+use Rattle.tao_processor.proofs.TagsKept.{tags_go_on}
 
 -- what an arrival finds
 pub record IsReadyToArrive (x : Parts) (client : ℕ) (op : Op) (word : ℕ) : Type 0 where
@@ -134,9 +135,11 @@ arrive_keeps {x} {client} {op} {word} {leaf} {session} {h} {q} {rows} {count} {r
       fetched = subst (λ n. TellsRows o now n (row_leaf rows) (row_word rows)) (sym does.more)
           ((rows_are_told o events x.row_count (row_leaf x.rows) (row_word x.rows) is.fetched).arrive client op word (row_leaf rows) (row_word rows) ready.lawful adds_row);
       writes = (writes_are_told o events x.recent x.places x.done_count x.issue_count x.ack_count x.next_nonce is.writes).arrive client op word;
+      tagged = (tags_go_on x.key o events x.tags is.tagged).arrive client op word;
       pools = subst (λ (later : List Event). HasPools x.shape false (arrived later) (dones later) (issues later) (acks later) left) (sym (newest_first events (Arrive client op word)))
           (room_grows x.shape false (arrived es + 1) (dones es) (issues es) (acks es) spent left grows ready.room.left);
       blocks = is.blocks;
+      order_rooms = is.order_rooms;
       recent_fits = is.recent_fits;
       written_fits = is.written_fits;
       written_empty = is.written_empty;

@@ -26,6 +26,7 @@ use Rattle.tao_processor.specs.Steps.{Finishes, LeavesBlocks, settled_where, is_
 use Rattle.tao_processor.specs.Groups.{Parts, IsProcessor, KeepsHoldings, KeepsRequests, pools_of}
 use Rattle.tao_processor.proofs.DoneHoldings.{DoesFetch, done_holdings}
 use Rattle.tao_processor.proofs.DoneReady.{IsReadyForDone}
+use Rattle.tao_processor.proofs.TagsKept.{tags_go_on}
 use Rattle.tao_tables.proofs.KeptWrites.{writes_are_told}
 
 -- what the calls of a Done do, by the leaf, the word and the number that they were given
@@ -70,8 +71,10 @@ done_keeps {x} {i} {leaf} {word} {t} {taken} {session} {h1} {h2} {h3} {q} {done_
       fetched = (rows_are_told o events x.row_count _ _ is.fetched).done i taken;
       writes = (writes_are_told o events x.recent x.places x.done_count x.issue_count x.ack_count x.next_nonce is.writes).done i taken recent ready.lawful
           (subst (λ (s : Shape). PutsPath s.l (fetched_leaf o es i) x.recent recent) (sym is.record_is.shape) (subst (λ at. PutsPath x.shape.l at x.recent recent) row.0 does.puts));
+      tagged = (tags_go_on x.key o events x.tags is.tagged).done i taken ready.honest;
       pools = subst (λ now. HasPools x.shape x.ready (arrived now) (dones now) (issues now) (acks now) left) (sym (newest_first events (Done i taken)))
           (room_grows x.shape x.ready (arrived es) (dones es + 1) (issues es) (acks es) spent left grows (ready.room.left 0 1 (omega arith) (omega arith)));
+      order_rooms = is.order_rooms;
       blocks = subst (λ (s : Shape). All (λ value. length value ≡ s.b) values) shape1 does.blocks.each;
       recent_fits = let less = does.no_less in let fits = is.recent_fits in omega (arith, less, fits);
       written_fits = is.written_fits;

@@ -1,5 +1,5 @@
 -- What a Done finds, and that it keeps the invariant.
-use Rattle.std.proofs.Common.{◌≡◌, ℕ, ◌+◌, ◌*◌, ◌^◌, ◌<◌, ◌≤◌, Bool, true, false, not, ◌||◌, List, [], length, filter, reverse, All, refl, sym, ap, ◌∙◌, subst, arith}
+use Rattle.std.proofs.Common.{◌≡◌, ℕ, ◌+◌, ◌*◌, ◌^◌, ◌<◌, ◌≤◌, Bool, true, false, not, ◌||◌, List, [], ◌∷◌, length, filter, reverse, All, refl, sym, ap, ◌∙◌, subst, arith}
 use Rattle.std.proofs.Math.Pow.{pow_pos}
 use Rattle.std.proofs.lemmas.List.{length-map, get_or_read_under}
 use Rattle.std.proofs.lemmas.List.Elements.{filter_agree}
@@ -14,7 +14,10 @@ use Rattle.tao_base.specs.Limits.{Shape}
 use Rattle.tao_base.specs.Tree.{is_on_path, leaf_of, path, node_at}
 use Rattle.tao_model.specs.Events.{arrived, dones, issues, acks, is_done, is_pad_op, has_fault, word_of}
 use Rattle.tao_model.specs.Requests.{is_real, fetched_leaf}
-use Rattle.tao_model.specs.Residence.{is_resident}
+use Rattle.tao_model.specs.Residence.{is_resident, Unaltered}
+use Rattle.tao_images.specs.Answers.{AreFetched}
+use Rattle.tao_images.specs.Honesty.{HasTagOf}
+use Rattle.tao_images.proofs.AnswerLemmas.{done_has_tags}
 use Rattle.tao_model.specs.Trace.{nodes_in}
 use Rattle.tao_base.specs.Buckets.{IsInForm}
 use Rattle.tao_model.specs.Lawful.{FollowsLawfully, MayFollow, touched_after}
@@ -63,14 +66,15 @@ pub record IsReadyForDone (x : Parts) (i : ℕ) (taken : List Bucket) : Type 0 w
   pub limit : i < length x.done_flags
   pub once : is_done_in x.done_flags i ≡ false
   pub rising : IsStrictlyIncreasing x.recent
+  pub honest : Unaltered (HasTagOf x.key x.session.history.opening.shape) x.session.history.opening (Done i taken ∷ reverse x.session.history.events)
   pub space : length x.recent + (x.session.history.opening.shape.l + 1) ≤ x.recent_room
 
 pub leaf_small : (l word : ℕ) → leaf_of l word < 2 ^ l
 leaf_small l word = let some = pow_pos l in omega arith
 
 pub ready_for_done : (x : Parts) (i : ℕ) (taken : List Bucket) → IsProcessor x → has_fault (reverse x.session.history.events) ≡ false
-    → MayFollow x.session.history.opening (reverse x.session.history.events) (Done i taken) → IsReadyForDone x i taken
-ready_for_done x i taken is running may = record {
+    → MayFollow x.session.history.opening (reverse x.session.history.events) (Done i taken) → ((path : List ℕ) × AreFetched x.key x.session.history i path taken) → IsReadyForDone x i taken
+ready_for_done x i taken is running may read = record {
   lawful = lawful;
   there = may.1.arrived;
   open_yet = may.1.under_way;
@@ -89,6 +93,7 @@ ready_for_done x i taken is running may = record {
   limit = ((flags_are_told o events x.done_flags x.acked_flags is.flags).done_free i taken lawful).within;
   once = ((flags_are_told o events x.done_flags x.acked_flags is.flags).done_free i taken lawful).down;
   rising = subst (λ (ns : List ℕ). IsStrictlyIncreasing ns) (sym is.writes.touched) short.rises;
+  honest = done_has_tags x.key x.session.history i read.0 taken is.record_is.proxy.opens is.record_is.proxy.follows is.tagged.taken read.1;
   space =
       let list = subst (λ (ns : List ℕ). length ns + (o.shape.l + 1) ≤ o.shape.k * (o.shape.l + 1)) (sym is.writes.touched) (short.room may.0) in
       let fits = subst (λ (s : Shape). s.k * (s.l + 1) ≤ x.recent_room) (sym is.record_is.shape) is.recent_fits in
@@ -130,11 +135,12 @@ ready_for_done x i taken is running may = record {
     short = recent_is_short o events is.record_is.proxy.follows
 
 -- this holds if the visible state allows the Done
-pub done_ready : {x : Parts} {h : History} {taken looked : List Bucket} (i : ℕ) → IsProcessor x → x.session.history ≡ h → taken ≡ looked → has_fault (reverse h.events) ≡ false
-    → MayFollow h.opening (reverse h.events) (Done i looked) → IsReadyForDone x i taken
-done_ready {x} {h} {taken} {looked} i is same here running may = ready_for_done x i taken is
+pub done_ready : {x : Parts} {h : History} {key : List ℕ} {taken looked : List Bucket} (i : ℕ) → IsProcessor x → x.session.history ≡ h → x.key ≡ key → taken ≡ looked
+    → has_fault (reverse h.events) ≡ false → MayFollow h.opening (reverse h.events) (Done i looked) → ((path : List ℕ) × AreFetched key h i path looked) → IsReadyForDone x i taken
+done_ready {x} {h} {key} {taken} {looked} i is same keyed here running may read = ready_for_done x i taken is
     (subst (λ (g : History). has_fault (reverse g.events) ≡ false) (sym same) running)
     (subst (λ (g : History). MayFollow g.opening (reverse g.events) (Done i taken)) (sym same) (subst (λ (bs : List Bucket). MayFollow h.opening (reverse h.events) (Done i bs)) (sym here) may))
+    (read.0, subst (λ (k : List ℕ). AreFetched k x.session.history i read.0 taken) (sym keyed) (subst (λ (g : History). AreFetched key g i read.0 taken) (sym same) (subst (λ (bs : List Bucket). AreFetched key h i read.0 bs) (sym here) read.1)))
 
 -- the row of an arrival
 pub row_is : {x : Parts} {i : ℕ} {row : Fetch} → IsProcessor x → i < arrived (reverse x.session.history.events) → x.row_count ≡ length x.rows → row ≡ slice_index_or x.rows i row

@@ -46,6 +46,12 @@ use Rattle.tao_holdings.specs.Holding.{HoldingsState, is_held, contents_in, coun
 use Rattle.tao_holdings.specs.Lists.{with_entries_of}
 use Rattle.tao_processor.specs.Steps.{IsNodeOf, IsEmpty, stamps, written_of, HoldsAgain}
 use Rattle.tao_processor.specs.Groups.{Parts, IsProcessor, NodesAre, pools_of}
+use Rattle.tao_base.specs.declared.storage.Order.{Order}
+use Rattle.tao_bucket.specs.Encoding.{format_of, tag_of}
+use Rattle.tao_images.specs.Orders.{IsOrderOf, IsOrderRoom}
+use Rattle.tao_tables.specs.Tags.{ReplacesTags}
+use Rattle.tao_processor.specs.Tags.{has_tag, tag_at, KeepsTagsOf}
+use Rattle.tao_processor.proofs.TagsKept.{tagged_later, tags_go_on, replaces}
 use Rattle.tao_processor.proofs.WrittenBack.{stamps_len, stamp_there, all_stamps, stamps_nodes, nodes_stay}
 
 -- ---- lists
@@ -89,6 +95,7 @@ pub record IsReadyToIssue (x : Parts) : Type 0 where
   pub held_all : All (λ node. is_held x.holdings node ≡ true) x.recent
   pub newer : All (λ node. version_in x.holdings node < x.issue_count + 1) x.recent
   pub fits : x.next_nonce + length x.recent < 2 ^ 64
+  pub tag_places : (version : ℕ) → format_of x.session.history.opening.shape.form version ≡ 2 → All (λ node. node < length x.tags) x.recent
 
 pub ready_to_issue : (x : Parts) → IsProcessor x → dones (reverse x.session.history.events) ≡ (issues (reverse x.session.history.events) + 1) * x.session.history.opening.shape.k → IsReadyToIssue x
 ready_to_issue x is due = record {
@@ -98,9 +105,7 @@ ready_to_issue x is due = record {
   few = few;
   count = let fits : issue_len o.shape ≤ length x.written = subst (λ (s : Shape). issue_len s ≤ length x.written) (sym is.record_is.shape) is.written_fits in omega (arith, few, fits);
   rising = subst (λ (ns : List ℕ). IsStrictlyIncreasing ns) (sym is.writes.touched) short.rises;
-  tree = subst (λ (ns : List ℕ). All (IsNodeOf o.shape) ns) (sym is.writes.touched) (λ k d low.
-      let inside = short.in_tree (get_or nodes k d) (list_any_at (λ v. nat_eq v (get_or nodes k d)) nodes k d low (eq-eqb (get_or nodes k d) (get_or nodes k d) refl)) in
-      record { low = omega (arith, inside.0); high = inside.1 });
+  tree = tree;
   held_all = subst (λ (ns : List ℕ). All (λ node. is_held x.holdings node ≡ true) ns) (sym is.writes.touched) (λ k d low.
       is.held_is.nodes.residents (get_or nodes k d) ∙ recent_is_resident o events (get_or nodes k d) is.record_is.proxy.follows
       (ltb-true (issues es * o.shape.k) (last_touch o es (get_or nodes k d)) (passing (λ node. nat_lt (issues es * o.shape.k) (last_touch o es node)) (range_with_len 1 (node_count o.shape.l)) k d low)));
@@ -109,6 +114,9 @@ ready_to_issue x is due = record {
       let most = (newest_is_greatest o events (get_or x.recent k d) is.record_is.proxy.follows).version.within in
       let m = is.writes.issues in
       omega (arith, told, most, m);
+  tag_places = λ version two.
+      let there = is.tagged.places (tagged_later o.shape.form version two) in
+      λ k d low. let in_tree = (tree k d low).high in omega (arith, there, in_tree);
   fits =
       let tall = (follows_opening o es is.record_is.proxy.follows).shape.height_high in
       let high : o.shape.l + 1 ≤ 17 = omega arith in
@@ -144,6 +152,11 @@ ready_to_issue x is due = record {
     short : IsRecentList o es nodes
     short = recent_is_short o events is.record_is.proxy.follows
 
+    tree : All (IsNodeOf o.shape) x.recent
+    tree = subst (λ (ns : List ℕ). All (IsNodeOf o.shape) ns) (sym is.writes.touched) (λ k d low.
+        let inside = short.in_tree (get_or nodes k d) (list_any_at (λ v. nat_eq v (get_or nodes k d)) nodes k d low (eq-eqb (get_or nodes k d) (get_or nodes k d) refl)) in
+        record { low = omega (arith, inside.0); high = inside.1 })
+
     within : length x.recent ≤ node_count o.shape.l
     within = subst (λ (ns : List ℕ). length ns ≤ node_count o.shape.l) (sym is.writes.touched) short.within
 
@@ -158,7 +171,8 @@ pub issue_ready : {x : Parts} {h : History} → IsProcessor x → x.session.hist
 issue_ready {x} {h} is same due = ready_to_issue x is (subst (λ (g : History). dones (reverse g.events) ≡ (issues (reverse g.events) + 1) * g.opening.shape.k) (sym same) due)
 
 -- what the calls of a write-back do
-pub record DoesIssue (x : Parts) (version : ℕ) (session : RecordState) (h1 h2 : HoldingsState) (written : List Bucket) (places : List ℕ) (place_room nonce : ℕ) : Type 0 where
+pub record DoesIssue (x : Parts) (version : ℕ) (session : RecordState) (h1 h2 : HoldingsState) (written : List Bucket) (places : List ℕ) (place_room nonce : ℕ) (kept : List (List ℕ))
+    (order : Order) (orders : List Order) (order_count : ℕ) : Type 0 where
   pub numbered : version ≡ x.issue_count + 1
   pub adds : session ≡ record (added x.session (Issue version x.next_nonce (written_of (contents_in x.holdings) x.recent version x.next_nonce))) { issues = x.session.issues - 1 }
   pub in_form : All (IsInForm x.holdings.shape) (written_of (contents_in x.holdings) x.recent version x.next_nonce)
@@ -170,13 +184,17 @@ pub record DoesIssue (x : Parts) (version : ℕ) (session : RecordState) (h1 h2 
   pub placed : places ≡ x.places ++ length x.session.history.events ∷ []
   pub no_less : x.place_room ≤ place_room
   pub next : nonce ≡ x.next_nonce + length x.recent
+  pub sends : IsOrderOf x.key x.shape version x.next_nonce (written_of (contents_in x.holdings) x.recent version x.next_nonce) order
+  pub keeps : KeepsTagsOf x.shape order x.tags kept
+  pub left : All (IsOrderRoom x.shape (issue_len x.shape)) orders
+  pub one_less : order_count + 1 ≡ x.order_count
 
-pub issue_keeps : {x : Parts} {version nonce recent_room place_room : ℕ} {session : RecordState} {h1 h2 : HoldingsState} {written : List Bucket} {recent places : List ℕ}
-    → IsProcessor x → has_fault (reverse x.session.history.events) ≡ false → dones (reverse x.session.history.events) ≡ (issues (reverse x.session.history.events) + 1) * x.session.history.opening.shape.k
-    → IsReadyToIssue x → DoesIssue x version session h1 h2 written places place_room nonce → recent ≡ [] → x.recent_room ≤ recent_room
-    → IsProcessor (record x { session = session; recent = recent; recent_room = recent_room; places = places; place_room = place_room; issue_count = version; next_nonce = nonce; holdings = h2; written = written })
-issue_keeps {x} {version} {nonce} {recent_room} {place_room} {session} {h1} {h2} {written} {recent} {places} is running due ready does none wide =
-    subst (λ (s : RecordState). IsProcessor (record x { session = s; recent = recent; recent_room = recent_room; places = places; place_room = place_room; issue_count = version; next_nonce = nonce; holdings = h2; written = written }))
+pub issue_keeps : {x : Parts} {version nonce recent_room place_room : ℕ} {session : RecordState} {h1 h2 : HoldingsState} {written : List Bucket} {recent places : List ℕ} {kept : List (List ℕ)}
+    {order : Order} {orders : List Order} {order_count : ℕ} → IsProcessor x → has_fault (reverse x.session.history.events) ≡ false → dones (reverse x.session.history.events) ≡ (issues (reverse x.session.history.events) + 1) * x.session.history.opening.shape.k
+    → IsReadyToIssue x → DoesIssue x version session h1 h2 written places place_room nonce kept order orders order_count → recent ≡ [] → x.recent_room ≤ recent_room
+    → IsProcessor (record x { session = session; recent = recent; recent_room = recent_room; places = places; place_room = place_room; issue_count = version; next_nonce = nonce; tags = kept; holdings = h2; written = written; orders = orders; order_count = order_count })
+issue_keeps {x} {version} {nonce} {recent_room} {place_room} {session} {h1} {h2} {written} {recent} {places} {kept} {order} {orders} {order_count} is running due ready does none wide =
+    subst (λ (s : RecordState). IsProcessor (record x { session = s; recent = recent; recent_room = recent_room; places = places; place_room = place_room; issue_count = version; next_nonce = nonce; tags = kept; holdings = h2; written = written; orders = orders; order_count = order_count }))
     (sym does.adds) (record {
       record_is = record {
         shape = is.record_is.shape;
@@ -202,9 +220,11 @@ issue_keeps {x} {version} {nonce} {recent_room} {place_room} {session} {h1} {h2}
           (subst (λ n. TellsWrites o (events ++ Issue version x.next_nonce buckets ∷ []) [] (x.places ++ length events ∷ []) x.done_count (x.issue_count + 1) x.ack_count n)
           (sym (does.next ∙ ap (λ n. x.next_nonce + n) (sym (written_len (contents_in x.holdings) x.recent version x.next_nonce))))
           ((writes_are_told o events x.recent x.places x.done_count x.issue_count x.ack_count x.next_nonce is.writes).issue version x.next_nonce buckets lawful))));
+      tagged = (tags_go_on x.key o events x.tags is.tagged).issue version x.next_nonce buckets kept replaced.0 replaced.1;
       pools = subst (λ (later : List Event). HasPools x.shape x.ready (arrived later) (dones later) (issues later) (acks later) left) (sym (newest_first events (Issue version x.next_nonce buckets)))
           (room_grows x.shape x.ready (arrived es) (dones es) (issues es + 1) (acks es) spent left grows ready.room.left);
       blocks = is.blocks;
+      order_rooms = does.left;
       recent_fits = let fits = is.recent_fits in omega (arith, fits, wide);
       written_fits = let fits = is.written_fits in let long = does.as_long in omega arith;
       written_empty = does.empty;
@@ -233,6 +253,11 @@ issue_keeps {x} {version} {nonce} {recent_room} {place_room} {session} {h1} {h2}
           (all_stamps (λ bucket. bucket.version ≡ version) x.recent version x.next_nonce (λ k low. refl));
       nonces = nonces_count (contents_in x.holdings) x.recent version x.next_nonce;
     }
+
+    replaced : ReplacesTags (has_tag o.shape) (tag_of x.key o.shape) version buckets (tag_at x.tags) (tag_at kept) × (length kept ≡ length x.tags)
+    replaced = replaces x.key o.shape version x.next_nonce buckets order x.tags kept (follows_opening o es is.record_is.proxy.follows).shape
+        (subst (λ (s : Shape). IsOrderOf x.key s version x.next_nonce buckets order) (sym is.record_is.shape) does.sends) stamped.in_form
+        (subst (λ (s : Shape). KeepsTagsOf s order x.tags kept) (sym is.record_is.shape) does.keeps)
 
     full : x.done_count ≡ (x.issue_count + 1) * o.shape.k
     full = is.writes.dones ∙ due ∙ ap (λ m. (m + 1) * o.shape.k) (sym is.writes.issues)
@@ -263,14 +288,14 @@ issue_keeps {x} {version} {nonce} {recent_room} {place_room} {session} {h1} {h2}
     spent = record (pools_of x) { issues = x.session.issues - 1; orders = x.order_count - 1 }
 
     left : Pools
-    left = record (pools_of x) { issues = x.session.issues - 1; places = place_room }
+    left = record (pools_of x) { issues = x.session.issues - 1; orders = order_count; places = place_room }
 
     grows : KeepsPools spent left
     grows = record {
       dones = omega arith;
       issues = omega arith;
       others = omega arith;
-      orders = omega arith;
+      orders = let less = does.one_less in omega (arith, less);
       stock = omega arith;
       values = omega arith;
       requests = omega arith;

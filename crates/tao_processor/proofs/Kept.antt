@@ -23,6 +23,7 @@ use Rattle.tao_tables.proofs.KeptRows.{rows_are_told, positions_are_told}
 use Rattle.tao_tables.proofs.KeptAnswers.{served_else}
 use Rattle.tao_tables.proofs.KeptWrites.{writes_are_told}
 use Rattle.tao_tables.proofs.ProxySteps.{follows_on}
+use Rattle.tao_processor.proofs.TagsKept.{tags_go_on}
 
 -- a record stays lawful, and its write-backs true
 pub record_more : (p : Shape) (h : History) (e : Event) → KeepsRecord p h → has_fault (reverse h.events) ≡ false → MayFollow h.opening (reverse h.events) e
@@ -64,8 +65,10 @@ fault_core {x} cause is running may = record {
   flags = (flags_are_told o events x.done_flags x.acked_flags is.flags).fault cause;
   fetched = (rows_are_told o events x.row_count _ _ is.fetched).fault cause;
   writes = (writes_are_told o events x.recent x.places x.done_count x.issue_count x.ack_count x.next_nonce is.writes).fault cause;
+  tagged = (tags_go_on x.key o events x.tags is.tagged).fault cause;
   pools = subst (λ es. HasPools x.shape x.ready (arrived es) (dones es) (issues es) (acks es) (pools_of x)) (sym (newest_first events (Fault cause))) is.pools;
   blocks = is.blocks;
+  order_rooms = is.order_rooms;
   recent_fits = is.recent_fits;
   written_fits = is.written_fits;
   written_empty = is.written_empty;

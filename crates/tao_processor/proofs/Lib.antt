@@ -7,6 +7,8 @@ pub mod Finished
 pub mod IssueKept
 pub mod Kept
 pub mod Opened
+pub mod OrdersSent
 pub mod ReserveKept
 pub mod Told
+pub mod TagsKept
 pub mod WrittenBack

@@ -29,7 +29,11 @@ use Rattle.tao_processor.specs.declared.fetches.Fetch.{Fetch}
 use Rattle.tao_requests.specs.State.{RequestsState, fresh}
 use Rattle.tao_requests.proofs.Followed.{follows_none}
 use Rattle.tao_holdings.specs.Holding.{HoldingsState, is_held, contents_in, entries_of, count_in, touch_in, version_in, leaf_by, none_held}
+use Rattle.tao_images.specs.Orders.{IsOrderRoom}
+use Rattle.tao_base.specs.declared.storage.Order.{Order}
 use Rattle.tao_processor.specs.Steps.{AreEmptyBuckets}
+use Rattle.tao_processor.specs.Tags.{HasTagsOf}
+use Rattle.tao_processor.proofs.TagsKept.{tags_from_load}
 use Rattle.tao_processor.specs.Groups.{IsProcessor, row_leaf, row_word}
 
 none_at : {X : Type 0} (n w : ℕ) (x d : X) → x ≡ d → get_or (replicate n x) w d ≡ d
@@ -39,11 +43,12 @@ none_at n w x d same = either (cases_lt w n)
     either (inl low) = get_or-replicate n w x d low ∙ same
     either (inr past) = get_or-eq_default (replicate n x) d (let long = length-replicate n x in omega (arith, long))
 
-pub opened_keeps : (s : Shape) (words : List ℕ) (blocks : List (List ℕ)) (loaded written : List Bucket) (stash : List Entry) (row_room place_room recent_room orders stock : ℕ) → IsShape s → length words ≡ s.n
+pub opened_keeps : (key : List ℕ) (kept : List (List ℕ)) (s : Shape) (words : List ℕ) (blocks : List (List ℕ)) (loaded written : List Bucket) (stash : List Entry) (row_room place_room recent_room orders stock : ℕ) → IsShape s → length words ≡ s.n
     → length blocks ≡ s.n → All (λ value. length value ≡ s.b) blocks → IsLoaded s (leaf_by (none_held s stash words)) blocks loaded stash
-    → AreEmptyBuckets (issue_len s) written → s.k * (s.l + 1) ≤ recent_room
+    → AreEmptyBuckets (issue_len s) written → s.k * (s.l + 1) ≤ recent_room → HasTagsOf key s loaded kept
     → IsProcessor (record {
       shape = s;
+      key = key;
       session = opened s words blocks loaded;
       requests = fresh s;
       done_flags = replicate (session_limit s) false;
@@ -59,15 +64,17 @@ pub opened_keeps : (s : Shape) (words : List ℕ) (blocks : List (List ℕ)) (lo
       issue_count = 0;
       ack_count = 0;
       next_nonce = node_count s.l + 1;
+      tags = kept;
       holdings = none_held s stash words;
       written = written;
       values = [];
       value_count = 0;
+      orders = [];
       order_count = orders;
       stock_count = stock;
       ready = false;
     })
-opened_keeps s words blocks loaded written stash row_room place_room recent_room orders stock shape word_count block_count values load empties wide = record {
+opened_keeps key kept s words blocks loaded written stash row_room place_room recent_room orders stock shape word_count block_count values load empties wide has = record {
   record_is = record { shape = refl; proxy = record { opens = start.0; follows = opening; writes = tt } };
   held_is = record {
     shape = refl;
@@ -79,8 +86,10 @@ opened_keeps s words blocks loaded written stash row_room place_room recent_room
   flags = flags_at_start o;
   fetched = rows_at_start o (row_leaf []) (row_word []);
   writes = writes_at_start o;
+  tagged = tags_from_load key o kept opening start.0 has;
   pools = room_at_start s _ shape.period_low;
   blocks = All-nil (λ value. length value ≡ s.b);
+  order_rooms = All-nil (IsOrderRoom s (issue_len s));
   recent_fits = wide;
   written_fits = let long = empties.len in omega arith;
   written_empty = empties.empty;
@@ -110,22 +119,23 @@ opened_keeps s words blocks loaded written stash row_room place_room recent_room
     zeros w = none_at {X = ℕ} _ w 0 0 refl
 
 -- this holds for these parts
-pub opened_from : {s : Shape} {words : List ℕ} {blocks : List (List ℕ)} {loaded written : List Bucket} {stash : List Entry} {row_room place_room recent_room orders stock : ℕ} {v_session : RecordState} {v_requests : RequestsState} {v_done_flags : List Bool} {v_acked_flags : List Bool} {v_rows : List Fetch} {v_row_count : ℕ} {v_recent : List ℕ} {v_places : List ℕ} {v_next_nonce : ℕ} {v_holdings : HoldingsState} {v_values : List (List ℕ)} {v_value_count : ℕ}
+pub opened_from : {key : List ℕ} {kept : List (List ℕ)} {s : Shape} {words : List ℕ} {blocks : List (List ℕ)} {loaded written : List Bucket} {stash : List Entry} {row_room place_room recent_room orders stock : ℕ} {v_session : RecordState} {v_requests : RequestsState} {v_done_flags : List Bool} {v_acked_flags : List Bool} {v_rows : List Fetch} {v_row_count : ℕ} {v_recent : List ℕ} {v_places : List ℕ} {v_next_nonce : ℕ} {v_holdings : HoldingsState} {v_values : List (List ℕ)} {v_value_count : ℕ} {v_orders : List Order}
     → IsShape s → length words ≡ s.n → length blocks ≡ s.n → All (λ value. length value ≡ s.b) blocks → IsLoaded s (leaf_by (none_held s stash words)) blocks loaded stash
-    → AreEmptyBuckets (issue_len s) written → s.k * (s.l + 1) ≤ recent_room
-    → v_session ≡ opened s words blocks loaded → v_requests ≡ fresh s → v_done_flags ≡ replicate (session_limit s) false → v_acked_flags ≡ replicate (session_limit s) false → v_rows ≡ [] → v_row_count ≡ 0 → v_recent ≡ [] → v_places ≡ [] → v_next_nonce ≡ node_count s.l + 1 → v_holdings ≡ none_held s stash words → v_values ≡ [] → v_value_count ≡ 0
-    → IsProcessor (record { shape = s; session = v_session; requests = v_requests; done_flags = v_done_flags; acked_flags = v_acked_flags; rows = v_rows; row_count = v_row_count; row_room = row_room; recent = v_recent; recent_room = recent_room; places = v_places; place_room = place_room; done_count = 0; issue_count = 0; ack_count = 0; next_nonce = v_next_nonce; holdings = v_holdings; written = written; values = v_values; value_count = v_value_count; order_count = orders; stock_count = stock; ready = false })
-opened_from {s} {words} {blocks} {loaded} {written} {stash} {row_room} {place_room} {recent_room} {orders} {stock} {v_session} {v_requests} {v_done_flags} {v_acked_flags} {v_rows} {v_row_count} {v_recent} {v_places} {v_next_nonce} {v_holdings} {v_values} {v_value_count} shape word_count block_count values load empties wide e_session e_requests e_done_flags e_acked_flags e_rows e_row_count e_recent e_places e_next_nonce e_holdings e_values e_value_count =
-    (subst (λ (z : RecordState). IsProcessor (record { shape = s; session = z; requests = v_requests; done_flags = v_done_flags; acked_flags = v_acked_flags; rows = v_rows; row_count = v_row_count; row_room = row_room; recent = v_recent; recent_room = recent_room; places = v_places; place_room = place_room; done_count = 0; issue_count = 0; ack_count = 0; next_nonce = v_next_nonce; holdings = v_holdings; written = written; values = v_values; value_count = v_value_count; order_count = orders; stock_count = stock; ready = false })) (sym e_session)
-    (subst (λ (z : RequestsState). IsProcessor (record { shape = s; session = opened s words blocks loaded; requests = z; done_flags = v_done_flags; acked_flags = v_acked_flags; rows = v_rows; row_count = v_row_count; row_room = row_room; recent = v_recent; recent_room = recent_room; places = v_places; place_room = place_room; done_count = 0; issue_count = 0; ack_count = 0; next_nonce = v_next_nonce; holdings = v_holdings; written = written; values = v_values; value_count = v_value_count; order_count = orders; stock_count = stock; ready = false })) (sym e_requests)
-    (subst (λ (z : List Bool). IsProcessor (record { shape = s; session = opened s words blocks loaded; requests = fresh s; done_flags = z; acked_flags = v_acked_flags; rows = v_rows; row_count = v_row_count; row_room = row_room; recent = v_recent; recent_room = recent_room; places = v_places; place_room = place_room; done_count = 0; issue_count = 0; ack_count = 0; next_nonce = v_next_nonce; holdings = v_holdings; written = written; values = v_values; value_count = v_value_count; order_count = orders; stock_count = stock; ready = false })) (sym e_done_flags)
-    (subst (λ (z : List Bool). IsProcessor (record { shape = s; session = opened s words blocks loaded; requests = fresh s; done_flags = replicate (session_limit s) false; acked_flags = z; rows = v_rows; row_count = v_row_count; row_room = row_room; recent = v_recent; recent_room = recent_room; places = v_places; place_room = place_room; done_count = 0; issue_count = 0; ack_count = 0; next_nonce = v_next_nonce; holdings = v_holdings; written = written; values = v_values; value_count = v_value_count; order_count = orders; stock_count = stock; ready = false })) (sym e_acked_flags)
-    (subst (λ (z : List Fetch). IsProcessor (record { shape = s; session = opened s words blocks loaded; requests = fresh s; done_flags = replicate (session_limit s) false; acked_flags = replicate (session_limit s) false; rows = z; row_count = v_row_count; row_room = row_room; recent = v_recent; recent_room = recent_room; places = v_places; place_room = place_room; done_count = 0; issue_count = 0; ack_count = 0; next_nonce = v_next_nonce; holdings = v_holdings; written = written; values = v_values; value_count = v_value_count; order_count = orders; stock_count = stock; ready = false })) (sym e_rows)
-    (subst (λ (z : ℕ). IsProcessor (record { shape = s; session = opened s words blocks loaded; requests = fresh s; done_flags = replicate (session_limit s) false; acked_flags = replicate (session_limit s) false; rows = []; row_count = z; row_room = row_room; recent = v_recent; recent_room = recent_room; places = v_places; place_room = place_room; done_count = 0; issue_count = 0; ack_count = 0; next_nonce = v_next_nonce; holdings = v_holdings; written = written; values = v_values; value_count = v_value_count; order_count = orders; stock_count = stock; ready = false })) (sym e_row_count)
-    (subst (λ (z : List ℕ). IsProcessor (record { shape = s; session = opened s words blocks loaded; requests = fresh s; done_flags = replicate (session_limit s) false; acked_flags = replicate (session_limit s) false; rows = []; row_count = 0; row_room = row_room; recent = z; recent_room = recent_room; places = v_places; place_room = place_room; done_count = 0; issue_count = 0; ack_count = 0; next_nonce = v_next_nonce; holdings = v_holdings; written = written; values = v_values; value_count = v_value_count; order_count = orders; stock_count = stock; ready = false })) (sym e_recent)
-    (subst (λ (z : List ℕ). IsProcessor (record { shape = s; session = opened s words blocks loaded; requests = fresh s; done_flags = replicate (session_limit s) false; acked_flags = replicate (session_limit s) false; rows = []; row_count = 0; row_room = row_room; recent = []; recent_room = recent_room; places = z; place_room = place_room; done_count = 0; issue_count = 0; ack_count = 0; next_nonce = v_next_nonce; holdings = v_holdings; written = written; values = v_values; value_count = v_value_count; order_count = orders; stock_count = stock; ready = false })) (sym e_places)
-    (subst (λ (z : ℕ). IsProcessor (record { shape = s; session = opened s words blocks loaded; requests = fresh s; done_flags = replicate (session_limit s) false; acked_flags = replicate (session_limit s) false; rows = []; row_count = 0; row_room = row_room; recent = []; recent_room = recent_room; places = []; place_room = place_room; done_count = 0; issue_count = 0; ack_count = 0; next_nonce = z; holdings = v_holdings; written = written; values = v_values; value_count = v_value_count; order_count = orders; stock_count = stock; ready = false })) (sym e_next_nonce)
-    (subst (λ (z : HoldingsState). IsProcessor (record { shape = s; session = opened s words blocks loaded; requests = fresh s; done_flags = replicate (session_limit s) false; acked_flags = replicate (session_limit s) false; rows = []; row_count = 0; row_room = row_room; recent = []; recent_room = recent_room; places = []; place_room = place_room; done_count = 0; issue_count = 0; ack_count = 0; next_nonce = node_count s.l + 1; holdings = z; written = written; values = v_values; value_count = v_value_count; order_count = orders; stock_count = stock; ready = false })) (sym e_holdings)
-    (subst (λ (z : List (List ℕ)). IsProcessor (record { shape = s; session = opened s words blocks loaded; requests = fresh s; done_flags = replicate (session_limit s) false; acked_flags = replicate (session_limit s) false; rows = []; row_count = 0; row_room = row_room; recent = []; recent_room = recent_room; places = []; place_room = place_room; done_count = 0; issue_count = 0; ack_count = 0; next_nonce = node_count s.l + 1; holdings = none_held s stash words; written = written; values = z; value_count = v_value_count; order_count = orders; stock_count = stock; ready = false })) (sym e_values)
-    (subst (λ (z : ℕ). IsProcessor (record { shape = s; session = opened s words blocks loaded; requests = fresh s; done_flags = replicate (session_limit s) false; acked_flags = replicate (session_limit s) false; rows = []; row_count = 0; row_room = row_room; recent = []; recent_room = recent_room; places = []; place_room = place_room; done_count = 0; issue_count = 0; ack_count = 0; next_nonce = node_count s.l + 1; holdings = none_held s stash words; written = written; values = []; value_count = z; order_count = orders; stock_count = stock; ready = false })) (sym e_value_count)
-    (opened_keeps s words blocks loaded written stash row_room place_room recent_room orders stock shape word_count block_count values load empties wide)))))))))))))
+    → AreEmptyBuckets (issue_len s) written → s.k * (s.l + 1) ≤ recent_room → HasTagsOf key s loaded kept
+    → v_session ≡ opened s words blocks loaded → v_requests ≡ fresh s → v_done_flags ≡ replicate (session_limit s) false → v_acked_flags ≡ replicate (session_limit s) false → v_rows ≡ [] → v_row_count ≡ 0 → v_recent ≡ [] → v_places ≡ [] → v_next_nonce ≡ node_count s.l + 1 → v_holdings ≡ none_held s stash words → v_values ≡ [] → v_value_count ≡ 0 → v_orders ≡ []
+    → IsProcessor (record { shape = s; key = key; session = v_session; requests = v_requests; done_flags = v_done_flags; acked_flags = v_acked_flags; rows = v_rows; row_count = v_row_count; row_room = row_room; recent = v_recent; recent_room = recent_room; places = v_places; place_room = place_room; done_count = 0; issue_count = 0; ack_count = 0; next_nonce = v_next_nonce; tags = kept; holdings = v_holdings; written = written; values = v_values; value_count = v_value_count; orders = v_orders; order_count = orders; stock_count = stock; ready = false })
+opened_from {key} {kept} {s} {words} {blocks} {loaded} {written} {stash} {row_room} {place_room} {recent_room} {orders} {stock} {v_session} {v_requests} {v_done_flags} {v_acked_flags} {v_rows} {v_row_count} {v_recent} {v_places} {v_next_nonce} {v_holdings} {v_values} {v_value_count} {v_orders} shape word_count block_count values load empties wide has e_session e_requests e_done_flags e_acked_flags e_rows e_row_count e_recent e_places e_next_nonce e_holdings e_values e_value_count e_orders =
+    (subst (λ (z : List Order). IsProcessor (record { shape = s; key = key; session = v_session; requests = v_requests; done_flags = v_done_flags; acked_flags = v_acked_flags; rows = v_rows; row_count = v_row_count; row_room = row_room; recent = v_recent; recent_room = recent_room; places = v_places; place_room = place_room; done_count = 0; issue_count = 0; ack_count = 0; next_nonce = v_next_nonce; tags = kept; holdings = v_holdings; written = written; values = v_values; value_count = v_value_count; orders = z; order_count = orders; stock_count = stock; ready = false })) (sym e_orders)
+    (subst (λ (z : RecordState). IsProcessor (record { shape = s; key = key; session = z; requests = v_requests; done_flags = v_done_flags; acked_flags = v_acked_flags; rows = v_rows; row_count = v_row_count; row_room = row_room; recent = v_recent; recent_room = recent_room; places = v_places; place_room = place_room; done_count = 0; issue_count = 0; ack_count = 0; next_nonce = v_next_nonce; tags = kept; holdings = v_holdings; written = written; values = v_values; value_count = v_value_count; orders = []; order_count = orders; stock_count = stock; ready = false })) (sym e_session)
+    (subst (λ (z : RequestsState). IsProcessor (record { shape = s; key = key; session = opened s words blocks loaded; requests = z; done_flags = v_done_flags; acked_flags = v_acked_flags; rows = v_rows; row_count = v_row_count; row_room = row_room; recent = v_recent; recent_room = recent_room; places = v_places; place_room = place_room; done_count = 0; issue_count = 0; ack_count = 0; next_nonce = v_next_nonce; tags = kept; holdings = v_holdings; written = written; values = v_values; value_count = v_value_count; orders = []; order_count = orders; stock_count = stock; ready = false })) (sym e_requests)
+    (subst (λ (z : List Bool). IsProcessor (record { shape = s; key = key; session = opened s words blocks loaded; requests = fresh s; done_flags = z; acked_flags = v_acked_flags; rows = v_rows; row_count = v_row_count; row_room = row_room; recent = v_recent; recent_room = recent_room; places = v_places; place_room = place_room; done_count = 0; issue_count = 0; ack_count = 0; next_nonce = v_next_nonce; tags = kept; holdings = v_holdings; written = written; values = v_values; value_count = v_value_count; orders = []; order_count = orders; stock_count = stock; ready = false })) (sym e_done_flags)
+    (subst (λ (z : List Bool). IsProcessor (record { shape = s; key = key; session = opened s words blocks loaded; requests = fresh s; done_flags = replicate (session_limit s) false; acked_flags = z; rows = v_rows; row_count = v_row_count; row_room = row_room; recent = v_recent; recent_room = recent_room; places = v_places; place_room = place_room; done_count = 0; issue_count = 0; ack_count = 0; next_nonce = v_next_nonce; tags = kept; holdings = v_holdings; written = written; values = v_values; value_count = v_value_count; orders = []; order_count = orders; stock_count = stock; ready = false })) (sym e_acked_flags)
+    (subst (λ (z : List Fetch). IsProcessor (record { shape = s; key = key; session = opened s words blocks loaded; requests = fresh s; done_flags = replicate (session_limit s) false; acked_flags = replicate (session_limit s) false; rows = z; row_count = v_row_count; row_room = row_room; recent = v_recent; recent_room = recent_room; places = v_places; place_room = place_room; done_count = 0; issue_count = 0; ack_count = 0; next_nonce = v_next_nonce; tags = kept; holdings = v_holdings; written = written; values = v_values; value_count = v_value_count; orders = []; order_count = orders; stock_count = stock; ready = false })) (sym e_rows)
+    (subst (λ (z : ℕ). IsProcessor (record { shape = s; key = key; session = opened s words blocks loaded; requests = fresh s; done_flags = replicate (session_limit s) false; acked_flags = replicate (session_limit s) false; rows = []; row_count = z; row_room = row_room; recent = v_recent; recent_room = recent_room; places = v_places; place_room = place_room; done_count = 0; issue_count = 0; ack_count = 0; next_nonce = v_next_nonce; tags = kept; holdings = v_holdings; written = written; values = v_values; value_count = v_value_count; orders = []; order_count = orders; stock_count = stock; ready = false })) (sym e_row_count)
+    (subst (λ (z : List ℕ). IsProcessor (record { shape = s; key = key; session = opened s words blocks loaded; requests = fresh s; done_flags = replicate (session_limit s) false; acked_flags = replicate (session_limit s) false; rows = []; row_count = 0; row_room = row_room; recent = z; recent_room = recent_room; places = v_places; place_room = place_room; done_count = 0; issue_count = 0; ack_count = 0; next_nonce = v_next_nonce; tags = kept; holdings = v_holdings; written = written; values = v_values; value_count = v_value_count; orders = []; order_count = orders; stock_count = stock; ready = false })) (sym e_recent)
+    (subst (λ (z : List ℕ). IsProcessor (record { shape = s; key = key; session = opened s words blocks loaded; requests = fresh s; done_flags = replicate (session_limit s) false; acked_flags = replicate (session_limit s) false; rows = []; row_count = 0; row_room = row_room; recent = []; recent_room = recent_room; places = z; place_room = place_room; done_count = 0; issue_count = 0; ack_count = 0; next_nonce = v_next_nonce; tags = kept; holdings = v_holdings; written = written; values = v_values; value_count = v_value_count; orders = []; order_count = orders; stock_count = stock; ready = false })) (sym e_places)
+    (subst (λ (z : ℕ). IsProcessor (record { shape = s; key = key; session = opened s words blocks loaded; requests = fresh s; done_flags = replicate (session_limit s) false; acked_flags = replicate (session_limit s) false; rows = []; row_count = 0; row_room = row_room; recent = []; recent_room = recent_room; places = []; place_room = place_room; done_count = 0; issue_count = 0; ack_count = 0; next_nonce = z; tags = kept; holdings = v_holdings; written = written; values = v_values; value_count = v_value_count; orders = []; order_count = orders; stock_count = stock; ready = false })) (sym e_next_nonce)
+    (subst (λ (z : HoldingsState). IsProcessor (record { shape = s; key = key; session = opened s words blocks loaded; requests = fresh s; done_flags = replicate (session_limit s) false; acked_flags = replicate (session_limit s) false; rows = []; row_count = 0; row_room = row_room; recent = []; recent_room = recent_room; places = []; place_room = place_room; done_count = 0; issue_count = 0; ack_count = 0; next_nonce = node_count s.l + 1; tags = kept; holdings = z; written = written; values = v_values; value_count = v_value_count; orders = []; order_count = orders; stock_count = stock; ready = false })) (sym e_holdings)
+    (subst (λ (z : List (List ℕ)). IsProcessor (record { shape = s; key = key; session = opened s words blocks loaded; requests = fresh s; done_flags = replicate (session_limit s) false; acked_flags = replicate (session_limit s) false; rows = []; row_count = 0; row_room = row_room; recent = []; recent_room = recent_room; places = []; place_room = place_room; done_count = 0; issue_count = 0; ack_count = 0; next_nonce = node_count s.l + 1; tags = kept; holdings = none_held s stash words; written = written; values = z; value_count = v_value_count; orders = []; order_count = orders; stock_count = stock; ready = false })) (sym e_values)
+    (subst (λ (z : ℕ). IsProcessor (record { shape = s; key = key; session = opened s words blocks loaded; requests = fresh s; done_flags = replicate (session_limit s) false; acked_flags = replicate (session_limit s) false; rows = []; row_count = 0; row_room = row_room; recent = []; recent_room = recent_room; places = []; place_room = place_room; done_count = 0; issue_count = 0; ack_count = 0; next_nonce = node_count s.l + 1; tags = kept; holdings = none_held s stash words; written = written; values = []; value_count = z; orders = []; order_count = orders; stock_count = stock; ready = false })) (sym e_value_count)
+    (opened_keeps key kept s words blocks loaded written stash row_room place_room recent_room orders stock shape word_count block_count values load empties wide has))))))))))))))

@@ -3,28 +3,31 @@ use Rattle.std.proofs.Common.{◌≡◌, ℕ, ◌≤◌, Bool, true, List, lengt
 use Rattle.tao_base.specs.declared.session.Event.{Event}
 use Rattle.tao_base.specs.Session.{Opening, History}
 use Rattle.tao_base.specs.Limits.{session_limit}
+use Rattle.tao_base.specs.declared.storage.Order.{Order}
+use Rattle.tao_images.specs.Orders.{IsOrderRoom}
 use Rattle.tao_model.specs.Events.{arrived, dones, issues, acks}
 use Rattle.tao_laws.specs.Counted.{CountsWork}
 use Rattle.tao_tables.specs.Pools.{Pools, HasPools, KeepsPools, wanted}
 use Rattle.tao_laws.proofs.CountedWork.{work_is_counted}
 use Rattle.tao_tables.proofs.PoolRoom.{room_grows, room_reserve}
-use Rattle.tao_record.specs.State.{RecordState}
+use Rattle.tao_record.specs.State.{RecordState, issue_len}
 use Rattle.tao_requests.specs.State.{RequestsState}
 use Rattle.tao_processor.specs.declared.fetches.Fetch.{Fetch}
 use Rattle.tao_processor.specs.Topping.{pools_from}
 use Rattle.tao_processor.specs.Groups.{Parts, IsProcessor, pools_of}
 
 -- what topping up leaves unchanged
-pub record TopsUp (x : Parts) (session : RecordState) (q : RequestsState) (rows : List Fetch) (row_count : ℕ) (places : List ℕ) (values : List (List ℕ)) : Type 0 where
+pub record TopsUp (x : Parts) (session : RecordState) (q : RequestsState) (rows : List Fetch) (row_count : ℕ) (places : List ℕ) (values : List (List ℕ)) (orders : List Order) : Type 0 where
   pub history_stays : session.history ≡ x.session.history
   pub requests_stay : q ≡ record x.requests { spare = q.spare }
   pub rows_stay : rows ≡ x.rows
   pub count_stays : row_count ≡ x.row_count
   pub places_stay : places ≡ x.places
   pub each : All (λ value. length value ≡ x.shape.b) values
+  pub order_rooms : All (IsOrderRoom x.shape (issue_len x.shape)) orders
 
-grown_core : (x : Parts) (ready : Bool) (numbers : RecordState) (spare row_room place_room value_count order_count stock_count : ℕ) (values : List (List ℕ)) → IsProcessor x
-    → All (λ value. length value ≡ x.shape.b) values
+grown_core : (x : Parts) (ready : Bool) (numbers : RecordState) (spare row_room place_room value_count order_count stock_count : ℕ) (values : List (List ℕ)) (orders : List Order) → IsProcessor x
+    → All (λ value. length value ≡ x.shape.b) values → All (IsOrderRoom x.shape (issue_len x.shape)) orders
     → HasPools x.shape ready (arrived (reverse x.session.history.events)) (dones (reverse x.session.history.events)) (issues (reverse x.session.history.events)) (acks (reverse x.session.history.events))
     (pools_from numbers spare row_room place_room value_count order_count stock_count)
     → IsProcessor (record x {
@@ -34,26 +37,29 @@ grown_core : (x : Parts) (ready : Bool) (numbers : RecordState) (spare row_room 
       place_room = place_room;
       values = values;
       value_count = value_count;
+      orders = orders;
       order_count = order_count;
       stock_count = stock_count;
       ready = ready;
     })
-grown_core x ready numbers spare row_room place_room value_count order_count stock_count values is each pools = record {
+grown_core x ready numbers spare row_room place_room value_count order_count stock_count values orders is each order_rooms pools = record {
   record_is = is.record_is;
   held_is = is.held_is;
   asked = record { shape = is.asked.shape; follows = is.asked.follows; served = is.asked.served };
   flags = is.flags;
   fetched = is.fetched;
   writes = is.writes;
+  tagged = is.tagged;
   pools = pools;
   blocks = each;
+  order_rooms = order_rooms;
   recent_fits = is.recent_fits;
   written_fits = is.written_fits;
   written_empty = is.written_empty;
 }
 
-grown : (x : Parts) (ready : Bool) (session : RecordState) (q : RequestsState) (rows : List Fetch) (row_count row_room : ℕ) (places : List ℕ) (place_room : ℕ) (values : List (List ℕ))
-    (value_count order_count stock_count : ℕ) → IsProcessor x → TopsUp x session q rows row_count places values
+grown : (x : Parts) (ready : Bool) (session : RecordState) (q : RequestsState) (rows : List Fetch) (row_count row_room : ℕ) (places : List ℕ) (place_room : ℕ) (values : List (List ℕ)) (orders : List Order)
+    (value_count order_count stock_count : ℕ) → IsProcessor x → TopsUp x session q rows row_count places values orders
     → HasPools x.shape ready (arrived (reverse x.session.history.events)) (dones (reverse x.session.history.events)) (issues (reverse x.session.history.events)) (acks (reverse x.session.history.events))
     (pools_from session q.spare row_room place_room value_count order_count stock_count)
     → IsProcessor (record x {
@@ -66,11 +72,12 @@ grown : (x : Parts) (ready : Bool) (session : RecordState) (q : RequestsState) (
       place_room = place_room;
       values = values;
       value_count = value_count;
+      orders = orders;
       order_count = order_count;
       stock_count = stock_count;
       ready = ready;
     })
-grown x ready session q rows row_count row_room places place_room values value_count order_count stock_count is tops pools =
+grown x ready session q rows row_count row_room places place_room values orders value_count order_count stock_count is tops pools =
     subst (λ (h : History). IsProcessor (record x {
       session = record session { history = h };
       requests = q;
@@ -81,6 +88,7 @@ grown x ready session q rows row_count row_room places place_room values value_c
       place_room = place_room;
       values = values;
       value_count = value_count;
+      orders = orders;
       order_count = order_count;
       stock_count = stock_count;
       ready = ready;
@@ -95,6 +103,7 @@ grown x ready session q rows row_count row_room places place_room values value_c
       place_room = place_room;
       values = values;
       value_count = value_count;
+      orders = orders;
       order_count = order_count;
       stock_count = stock_count;
       ready = ready;
@@ -109,6 +118,7 @@ grown x ready session q rows row_count row_room places place_room values value_c
       place_room = place_room;
       values = values;
       value_count = value_count;
+      orders = orders;
       order_count = order_count;
       stock_count = stock_count;
       ready = ready;
@@ -122,6 +132,7 @@ grown x ready session q rows row_count row_room places place_room values value_c
       place_room = place_room;
       values = values;
       value_count = value_count;
+      orders = orders;
       order_count = order_count;
       stock_count = stock_count;
       ready = ready;
@@ -134,15 +145,16 @@ grown x ready session q rows row_count row_room places place_room values value_c
       place_room = place_room;
       values = values;
       value_count = value_count;
+      orders = orders;
       order_count = order_count;
       stock_count = stock_count;
       ready = ready;
     })) (sym tops.places_stay)
-    (grown_core x ready session q.spare row_room place_room value_count order_count stock_count values is tops.each pools)))))
+    (grown_core x ready session q.spare row_room place_room value_count order_count stock_count values orders is tops.each tops.order_rooms pools)))))
 
 -- if memory ran out
-pub grown_keeps : {x : Parts} {session : RecordState} {q : RequestsState} {rows : List Fetch} {row_count row_room : ℕ} {places : List ℕ} {place_room : ℕ} {values : List (List ℕ)}
-    {value_count order_count stock_count : ℕ} → IsProcessor x → TopsUp x session q rows row_count places values
+pub grown_keeps : {x : Parts} {session : RecordState} {q : RequestsState} {rows : List Fetch} {row_count row_room : ℕ} {places : List ℕ} {place_room : ℕ} {values : List (List ℕ)} {orders : List Order}
+    {value_count order_count stock_count : ℕ} → IsProcessor x → TopsUp x session q rows row_count places values orders
     → KeepsPools (pools_of x) (pools_from session q.spare row_room place_room value_count order_count stock_count)
     → IsProcessor (record x {
       session = session;
@@ -154,17 +166,18 @@ pub grown_keeps : {x : Parts} {session : RecordState} {q : RequestsState} {rows 
       place_room = place_room;
       values = values;
       value_count = value_count;
+      orders = orders;
       order_count = order_count;
       stock_count = stock_count;
     })
-grown_keeps {x} {session} {q} {rows} {row_count} {row_room} {places} {place_room} {values} {value_count} {order_count} {stock_count} is tops keeps =
-    grown x x.ready session q rows row_count row_room places place_room values value_count order_count stock_count is tops
+grown_keeps {x} {session} {q} {rows} {row_count} {row_room} {places} {place_room} {values} {orders} {value_count} {order_count} {stock_count} is tops keeps =
+    grown x x.ready session q rows row_count row_room places place_room values orders value_count order_count stock_count is tops
     (room_grows x.shape x.ready (arrived (reverse x.session.history.events)) (dones (reverse x.session.history.events)) (issues (reverse x.session.history.events))
     (acks (reverse x.session.history.events)) (pools_of x) (pools_from session q.spare row_room place_room value_count order_count stock_count) keeps is.pools)
 
 -- if memory sufficed
-pub ready_keeps : {x : Parts} {session : RecordState} {q : RequestsState} {rows : List Fetch} {row_count row_room : ℕ} {places : List ℕ} {place_room : ℕ} {values : List (List ℕ)}
-    {value_count order_count stock_count : ℕ} {aim : Pools} → IsProcessor x → TopsUp x session q rows row_count places values
+pub ready_keeps : {x : Parts} {session : RecordState} {q : RequestsState} {rows : List Fetch} {row_count row_room : ℕ} {places : List ℕ} {place_room : ℕ} {values : List (List ℕ)} {orders : List Order}
+    {value_count order_count stock_count : ℕ} {aim : Pools} → IsProcessor x → TopsUp x session q rows row_count places values orders
     → aim ≡ wanted x.shape x.row_count x.done_count x.issue_count x.ack_count → KeepsPools aim (pools_from session q.spare row_room place_room value_count order_count stock_count)
     → IsProcessor (record x {
       session = session;
@@ -176,12 +189,13 @@ pub ready_keeps : {x : Parts} {session : RecordState} {q : RequestsState} {rows 
       place_room = place_room;
       values = values;
       value_count = value_count;
+      orders = orders;
       order_count = order_count;
       stock_count = stock_count;
       ready = true;
     })
-ready_keeps {x} {session} {q} {rows} {row_count} {row_room} {places} {place_room} {values} {value_count} {order_count} {stock_count} {aim} is tops aims keeps =
-    grown x true session q rows row_count row_room places place_room values value_count order_count stock_count is tops
+ready_keeps {x} {session} {q} {rows} {row_count} {row_room} {places} {place_room} {values} {orders} {value_count} {order_count} {stock_count} {aim} is tops aims keeps =
+    grown x true session q rows row_count row_room places place_room values orders value_count order_count stock_count is tops
     (subst (λ a. HasPools x.shape true a (dones es) (issues es) (acks es) new) is.fetched.counts
     (subst (λ d. HasPools x.shape true x.row_count d (issues es) (acks es) new) is.writes.dones
     (subst (λ m. HasPools x.shape true x.row_count x.done_count m (acks es) new) is.writes.issues

@@ -18,12 +18,20 @@ use Rattle.tao_requests.specs.Laws.{Follows}
 use Rattle.tao_record.specs.State.{RecordState, issue_len}
 use Rattle.tao_holdings.specs.Holding.{HoldingsState, is_held, contents_in, count_in, touch_in, version_in}
 use Rattle.tao_base.specs.declared.storage.Bucket.{Bucket}
+use Rattle.tao_base.specs.declared.storage.Order.{Order}
+use Rattle.tao_bucket.specs.Encoding.{tag_of}
+use Rattle.tao_images.specs.Honesty.{HasTagOf}
+use Rattle.tao_images.specs.Orders.{IsOrderRoom}
+use Rattle.tao_model.specs.Residence.{Unaltered}
+use Rattle.tao_tables.specs.Tags.{TellsTags}
 use Rattle.tao_processor.specs.Steps.{IsEmpty}
+use Rattle.tao_processor.specs.Tags.{has_tag, tag_at, HasPlaces}
 use Rattle.tao_processor.specs.declared.fetches.Fetch.{Fetch}
 
 -- all that the invariant speaks of
 pub record Parts : Type 0 where
   pub shape : Shape
+  pub key : List ℕ
   pub session : RecordState
   pub requests : RequestsState
   pub done_flags : List Bool
@@ -39,10 +47,12 @@ pub record Parts : Type 0 where
   pub issue_count : ℕ
   pub ack_count : ℕ
   pub next_nonce : ℕ
+  pub tags : List (List ℕ)
   pub holdings : HoldingsState
   pub written : List Bucket
   pub values : List (List ℕ)
   pub value_count : ℕ
+  pub orders : List Order
   pub order_count : ℕ
   pub stock_count : ℕ
   pub ready : Bool
@@ -67,6 +77,12 @@ pub record KeepsRequests (o : Opening) (events : List Event) (st : RequestsState
   pub shape : st.shape ≡ o.shape
   pub follows : Follows events st.requests
   pub served : AreServed o (reverse events) st.requests
+
+-- the tags of the nodes' latest versions, which all fetched buckets had
+pub record KeepsTags (key : List ℕ) (o : Opening) (es : List Event) (kept : List (List ℕ)) : Type 0 where
+  pub places : HasPlaces o.shape kept
+  pub told : TellsTags (has_tag o.shape) (tag_of key o.shape) o es (tag_at kept)
+  pub taken : Unaltered (HasTagOf key o.shape) o es
 
 -- the row for no arrival
 abbrev pub no_row : Fetch
@@ -102,9 +118,11 @@ pub record IsProcessor (x : Parts) : Type 0 where
   pub flags : TellsFlags x.session.history.opening (reverse x.session.history.events) x.done_flags x.acked_flags
   pub fetched : TellsRows x.session.history.opening (reverse x.session.history.events) x.row_count (row_leaf x.rows) (row_word x.rows)
   pub writes : TellsWrites x.session.history.opening x.session.history.events x.recent x.places x.done_count x.issue_count x.ack_count x.next_nonce
+  pub tagged : KeepsTags x.key x.session.history.opening (reverse x.session.history.events) x.tags
   pub pools : HasPools x.shape x.ready (arrived (reverse x.session.history.events)) (dones (reverse x.session.history.events)) (issues (reverse x.session.history.events))
       (acks (reverse x.session.history.events)) (pools_of x)
   pub blocks : All (λ value. length value ≡ x.shape.b) x.values
+  pub order_rooms : All (IsOrderRoom x.shape (issue_len x.shape)) x.orders
   pub recent_fits : x.shape.k * (x.shape.l + 1) ≤ x.recent_room
   pub written_fits : issue_len x.shape ≤ length x.written
   pub written_empty : All IsEmpty x.written

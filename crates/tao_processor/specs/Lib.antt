@@ -2,4 +2,5 @@ pub mod Groups
 pub mod Readers
 pub mod State
 pub mod Steps
+pub mod Tags
 pub mod Topping

@@ -6,8 +6,13 @@ use Rattle.tao_model.specs.Events.{issues}
 use Rattle.tao_base.specs.declared.storage.Bucket.{Bucket}
 use Rattle.tao_base.specs.Limits.{Shape}
 use Rattle.tao_base.specs.Session.{History}
+use Rattle.tao_base.specs.Links.{FitsLinks}
+use Rattle.tao_base.specs.declared.storage.Order.{Order}
+use Rattle.tao_images.specs.Answers.{AreFetched}
+use Rattle.tao_images.specs.Honesty.{HasTagOf}
+use Rattle.tao_images.specs.Orders.{IsOrderOf}
 use Rattle.tao_model.specs.Requests.{position}
-use Rattle.tao_model.specs.Residence.{last_touch, is_resident, newest_version}
+use Rattle.tao_model.specs.Residence.{last_touch, is_resident, newest_version, Unaltered}
 use Rattle.tao_held.specs.Held.{held, IsOfProxy}
 use Rattle.tao_tables.specs.Tables.{cover_count}
 use Rattle.tao_holdings.specs.Holding.{HoldingsState, is_held, contents_in, count_in, touch_in, version_in, leaf_by, AreForms}
@@ -33,14 +38,20 @@ pub record IsProcessorSound (c : ProcessorState) : Type 0 where
   pub counts : (w : ℕ) → count_in c.holdings w ≡ cover_count c.history.opening (reverse c.history.events) w
   pub touches : (w : ℕ) → touch_in c.holdings w ≡ last_touch c.history.opening (reverse c.history.events) w
   pub versions : (w : ℕ) → version_in c.holdings w ≡ newest_version (reverse c.history.events) w
+  pub tags : Unaltered (HasTagOf c.key c.history.opening.shape) c.history.opening (reverse c.history.events)
   pub shape : c.holdings.shape ≡ c.history.opening.shape
   pub forms : AreForms c.holdings
 
--- a write-back was recorded; of all else that contracts see, only what is held may differ
-pub record Issues (old new : ProcessorState) : Type 0 where
-  pub nonce : ℕ
+-- the buckets that were looked at last were read from an answer to this arrival's fetch
+abbrev pub IsLookedAt : ProcessorState → ℕ → Type 0
+IsLookedAt c i = (path : List ℕ) × AreFetched c.key c.history i path c.looked
+
+-- A write-back was recorded, and the order sends its buckets. Of all else that contracts see, only what is held may differ.
+pub record Issues (old new : ProcessorState) (order : Order) : Type 0 where
   pub buckets : List Bucket
-  pub state : new ≡ record old { history = with_event old.history (Issue (issues (reverse old.history.events) + 1) nonce buckets); holdings = new.holdings }
+  pub state : new ≡ record old { history = with_event old.history (Issue (issues (reverse old.history.events) + 1) order.nonce buckets); holdings = new.holdings }
+  pub sends : IsOrderOf old.key old.history.opening.shape (issues (reverse old.history.events) + 1) order.nonce buckets order
+  pub fits : FitsLinks old.history.opening.shape order
 
 -- a session begins with this opening
 pub record IsOpened (k : List ℕ) (s : Shape) (tape : List ℕ) (blocks : List (List ℕ)) (c : ProcessorState) : Type 0 where

@@ -6,6 +6,7 @@ mod finishing;
 mod forgetting;
 mod opening;
 mod processor;
+mod tags;
 mod topping;
 mod writing;
 

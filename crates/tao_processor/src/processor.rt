@@ -10,8 +10,9 @@ mod readers;
 use crate::fetches::{Fetch, leaf_now};
 use crate::finishing::finish;
 use crate::forgetting::{forget_all, issued};
-use crate::opening::empty_buckets;
-use crate::topping::{top_up, wanted_now};
+use crate::opening::{empty_buckets, most_written};
+use crate::tags::{keep_tags, load_tags};
+use crate::topping::{take_order, top_up, wanted_now};
 use crate::writing::write_back;
 use std::alloc::Global;
 use std::marker::Model;
@@ -39,6 +40,7 @@ pub struct Processor {
     issues: u32,
     acks: u32,
     nonce: u64,
+    tags: Vec<[u8; 32]>,
     holdings: Holdings,
     written: Vec<Bucket>,
     values: Vec<Block>,
@@ -60,6 +62,7 @@ impl Model for Processor {
 
     ghost invariant = { λ r. IsProcessor (record {
       shape = r.p;
+      key = r.key;
       session = r.session;
       requests = r.requests;
       done_flags = r.sequence;
@@ -75,10 +78,12 @@ impl Model for Processor {
       issue_count = r.issues;
       ack_count = r.acks;
       next_nonce = r.nonce;
+      tags = r.tags.items;
       holdings = r.holdings;
       written = r.written.items;
       values = r.values.items;
       value_count = vec_len r.values;
+      orders = r.orders.items;
       order_count = vec_len r.orders;
       stock_count = vec_len r.stock;
       ready = r.ready;
@@ -86,7 +91,7 @@ impl Model for Processor {
 }
 
 impl Processor {
-    ghost use Rattle.tao_processor.specs.State.{with_event, IsProcessorSound, Issues, IsOpened};
+    ghost use Rattle.tao_processor.specs.State.{with_event, IsProcessorSound, IsLookedAt, Issues, IsOpened};
 
     /// Loads all blocks, with these words for their positions, and begins a session.
     pub fn open(
@@ -102,6 +107,7 @@ impl Processor {
         ensures opened { IfOk result (λ c. IsOpened key p.now words blocks c) }
     {
         let (loaded, holdings) = Holdings::load(alloc, p, words.as_slice(), blocks.as_slice())?;
+        let tags = load_tags(alloc, p, &key, loaded.as_slice())?;
         let session = Record::begin(alloc, p, words, blocks, loaded)?;
         let requests = Requests::new(alloc, p)?;
         let sequence = Sequence::new(alloc, p)?;
@@ -123,6 +129,7 @@ impl Processor {
             issues: 0,
             acks: 0,
             nonce: u64::from(p.nodes()) + 1,
+            tags,
             holdings,
             written,
             values: Vec::new(alloc),
@@ -153,10 +160,9 @@ impl Processor {
             self.issues,
             self.acks,
         );
-        let b = self.p.b() as usize;
         match top_up(
             self.alloc,
-            b,
+            &self.p,
             &wanted,
             &mut self.session,
             &mut self.requests,
@@ -187,6 +193,7 @@ impl Processor {
     pub fn done(&mut self, arrival: u64)
         requires running { has_fault (reverse self.old.history.events) ≡ false }
         requires follows { MayFollow self.old.history.opening (reverse self.old.history.events) (Done arrival self.old.looked) }
+        requires tags { IsLookedAt self.old arrival }
         ensures state { self.new ≡ record self.old { history = with_event self.old.history (Done arrival self.old.looked); holdings = self.new.holdings; looked = [] } }
     {
         let Fetch { leaf, word } = self.fetches[arrival as usize];
@@ -238,26 +245,32 @@ impl Processor {
         self.session.add_acked(version);
     }
 
-    /// Issues the write-back of a full period.
-    pub fn issue(&mut self)
+    /// Issues the write-back of a full period, and gives the order that sends it.
+    pub fn issue(&mut self) -> Order
         requires running { has_fault (reverse self.old.history.events) ≡ false }
         requires due { dones (reverse self.old.history.events) ≡ (issues (reverse self.old.history.events) + 1) * self.old.history.opening.shape.k }
-        ensures issued { Issues self.old self.new }
+        ensures issued { Issues self.old self.new result }
     {
         let version = self.issues + 1;
         let place = self.session.events().len();
+        let mut order = take_order(&mut self.orders);
         write_back(
+            &self.p,
+            &self.key,
             &mut self.session,
             &mut self.holdings,
             &mut self.written,
             &self.recent,
             version,
             self.nonce,
+            &mut order,
         );
+        keep_tags(&self.p, &order, &mut self.tags);
         self.holdings.set_versions(&self.recent, version);
         self.places.push_reserved(place);
         self.nonce += self.recent.len() as u64;
         self.issues = version;
         self.recent.truncate(0);
+        order
     }
 }

@@ -1,11 +1,16 @@
 //! Preallocates for one more arrival.
-ghost use Rattle.std.specs.Prelude.{◌≡◌, ◌≤◌, length, vec_len, vec_capacity, All, OnOk};
+ghost use Rattle.std.specs.Prelude.{◌≡◌, ℕ, ◌+◌, ◌≤◌, length, vec_len, vec_capacity, All, OnOk};
+ghost use Rattle.tao_base.specs.Limits.{Shape};
+ghost use Rattle.tao_images.specs.Orders.{IsOrderRoom};
+ghost use Rattle.tao_record.specs.State.{issue_len};
 ghost use Rattle.tao_tables.specs.Pools.{KeepsPools, wanted};
 ghost use Rattle.tao_processor.specs.Topping.{pools_from, pools_in};
 
 use crate::fetches::Fetch;
+use crate::opening::most_written;
 use std::alloc::Global;
-use tao_base::{Block, Bucket, Entries, Image, NoMemory, Numbers, Order, Params};
+use tao_base::{Block, Bucket, Entries, NoMemory, Order, Params};
+use tao_images::order_room;
 use tao_record::Record;
 use tao_requests::Requests;
 
@@ -27,24 +32,35 @@ pub(crate) fn fill_values(
     Ok(())
 }
 
-/// Fills up the orders to at least this many.
+/// Fills up the orders to at least this many, each with room for any write-back.
 pub(crate) fn fill_orders(
     alloc: Global,
+    p: &Params,
     orders: &mut Vec<Order>,
     count: usize,
 ) -> Result<(), NoMemory>
+    requires each { All (IsOrderRoom p.now (issue_len p.now)) orders.old.items }
+    ensures each { All (IsOrderRoom p.now (issue_len p.now)) orders.new.items }
     ensures kept { vec_len orders.old ≤ vec_len orders.new }
     ensures ok { OnOk result (count ≤ vec_len orders.new) }
 {
     while orders.len() < count {
-        orders.push(Order {
-            version: 0,
-            nonce: 0,
-            nodes: Numbers::new(alloc),
-            image: Image::new(alloc),
-        })?;
+        orders.push(order_room(alloc, p, most_written(p))?)?;
     }
     Ok(())
+}
+
+/// Takes one of the orders.
+pub(crate) fn take_order(orders: &mut Vec<Order>) -> Order
+    requires some { 1 ≤ vec_len orders.old }
+    ensures order { (s : Shape) (count : ℕ) → All (IsOrderRoom s count) orders.old.items → IsOrderRoom s count result }
+    ensures left { (s : Shape) (count : ℕ) → All (IsOrderRoom s count) orders.old.items → All (IsOrderRoom s count) orders.new.items }
+    ensures len { vec_len orders.new + 1 ≡ vec_len orders.old }
+{
+    match orders.pop() {
+        Some(order) => order,
+        None => unreachable!(),
+    }
 }
 
 /// Fills up the buckets of the stock to at least this many.
@@ -118,7 +134,7 @@ pub(crate) fn wanted_now(p: &Params, arrivals: usize, dones: u64, issues: u32, a
 /// Fills up all pools to at least these sizes. If memory runs out, some have grown.
 pub(crate) fn top_up(
     alloc: Global,
-    b: usize,
+    p: &Params,
     wanted: &Wanted,
     session: &mut Record,
     requests: &mut Requests,
@@ -128,13 +144,15 @@ pub(crate) fn top_up(
     orders: &mut Vec<Order>,
     stock: &mut Vec<Bucket>,
 ) -> Result<(), NoMemory>
-    requires each { All (λ value. length value ≡ b) values.old.items }
+    requires each { All (λ value. length value ≡ p.now.b) values.old.items }
+    requires order_rooms { All (IsOrderRoom p.now (issue_len p.now)) orders.old.items }
     ensures history { session.new.history ≡ session.old.history }
     ensures requests { requests.new ≡ record requests.old { spare = requests.new.spare } }
     ensures rows { fetches.new.items ≡ fetches.old.items }
     ensures row_count { vec_len fetches.new ≡ vec_len fetches.old }
     ensures places { places.new.items ≡ places.old.items }
-    ensures each { All (λ value. length value ≡ b) values.new.items }
+    ensures each { All (λ value. length value ≡ p.now.b) values.new.items }
+    ensures order_rooms { All (IsOrderRoom p.now (issue_len p.now)) orders.new.items }
     ensures grown { KeepsPools (pools_from session.old requests.old.spare (vec_capacity fetches.old) (vec_capacity places.old) (vec_len values.old) (vec_len orders.old) (vec_len stock.old))
         (pools_from session.new requests.new.spare (vec_capacity fetches.new) (vec_capacity places.new) (vec_len values.new) (vec_len orders.new) (vec_len stock.new)) }
     ensures ok { OnOk result (KeepsPools (pools_in wanted.now) (pools_from session.new requests.new.spare (vec_capacity fetches.new) (vec_capacity places.new) (vec_len values.new) (vec_len orders.new) (vec_len stock.new))) }
@@ -143,8 +161,8 @@ pub(crate) fn top_up(
     requests.reserve()?;
     widen(fetches, wanted.rows)?;
     widen(places, wanted.places)?;
-    fill_values(alloc, b, values, wanted.values)?;
-    fill_orders(alloc, orders, wanted.orders)?;
+    fill_values(alloc, p.b() as usize, values, wanted.values)?;
+    fill_orders(alloc, p, orders, wanted.orders)?;
     fill_stock(alloc, stock, wanted.stock)?;
     Ok(())
 }

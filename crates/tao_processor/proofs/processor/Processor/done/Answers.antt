@@ -14,34 +14,34 @@ use Rattle.tao_processor.proofs.processor.Processor.done.Goals as goal
 
 pub add_done-requires-clause-spare : goal.add_done-requires-clause-spare
 add_done-requires-clause-spare c =
-    let ready = (done_ready c.args.arrival c.self.invariant (ap (λ (st : ProcessorState). st.history) c.self.view_is) (ap (λ (st : ProcessorState). st.looked) c.self.view_is) c.requires.running c.requires.follows) in
+    let ready = (done_ready c.args.arrival c.self.invariant (ap (λ (st : ProcessorState). st.history) c.self.view_is) (ap (λ (st : ProcessorState). st.key) c.self.view_is) (ap (λ (st : ProcessorState). st.looked) c.self.view_is) c.requires.running c.requires.follows c.requires.tags) in
     ready.room.dones
 
 pub add_done-requires-clause-buckets : goal.add_done-requires-clause-buckets
 add_done-requires-clause-buckets c =
-    let ready = (done_ready c.args.arrival c.self.invariant (ap (λ (st : ProcessorState). st.history) c.self.view_is) (ap (λ (st : ProcessorState). st.looked) c.self.view_is) c.requires.running c.requires.follows) in
+    let ready = (done_ready c.args.arrival c.self.invariant (ap (λ (st : ProcessorState). st.history) c.self.view_is) (ap (λ (st : ProcessorState). st.key) c.self.view_is) (ap (λ (st : ProcessorState). st.looked) c.self.view_is) c.requires.running c.requires.follows c.requires.tags) in
     subst (λ (bs : List Bucket). AreBucketsOf c.self.inside.session.history.opening.shape (done_len c.self.inside.session.history.opening.shape) bs) (sym c.deref.ensures.value) ready.fits
 
 pub take_in-requires-clause-leaf : goal.take_in-requires-clause-leaf
 take_in-requires-clause-leaf c =
-    let ready = (done_ready c.args.arrival c.self.invariant (ap (λ (st : ProcessorState). st.history) c.self.view_is) (ap (λ (st : ProcessorState). st.looked) c.self.view_is) c.requires.running c.requires.follows) in
+    let ready = (done_ready c.args.arrival c.self.invariant (ap (λ (st : ProcessorState). st.history) c.self.view_is) (ap (λ (st : ProcessorState). st.key) c.self.view_is) (ap (λ (st : ProcessorState). st.looked) c.self.view_is) c.requires.running c.requires.follows c.requires.tags) in
     let row = (row_is c.self.invariant ready.there (omega (arith, c.self.inside.fetches.ok)) c.index.ensures) in
     leaf_fits c.self.invariant.held_is.shape row.0 ready.small
 
 pub take_in-requires-clause-nodes : goal.take_in-requires-clause-nodes
 take_in-requires-clause-nodes c =
-    let ready = (done_ready c.args.arrival c.self.invariant (ap (λ (st : ProcessorState). st.history) c.self.view_is) (ap (λ (st : ProcessorState). st.looked) c.self.view_is) c.requires.running c.requires.follows) in
+    let ready = (done_ready c.args.arrival c.self.invariant (ap (λ (st : ProcessorState). st.history) c.self.view_is) (ap (λ (st : ProcessorState). st.key) c.self.view_is) (ap (λ (st : ProcessorState). st.looked) c.self.view_is) c.requires.running c.requires.follows c.requires.tags) in
     let row = (row_is c.self.invariant ready.there (omega (arith, c.self.inside.fetches.ok)) c.index.ensures) in
     ready.nodes ∙ ap₂ (λ (s : Shape) (at : ℕ). filter (λ w. not (is_held c.self.inside.holdings w)) (path s.l at)) (sym c.self.invariant.held_is.shape) (sym row.0)
 
 pub take_in-requires-clause-in_form : goal.take_in-requires-clause-in_form
 take_in-requires-clause-in_form c =
-    let ready = (done_ready c.args.arrival c.self.invariant (ap (λ (st : ProcessorState). st.history) c.self.view_is) (ap (λ (st : ProcessorState). st.looked) c.self.view_is) c.requires.running c.requires.follows) in
+    let ready = (done_ready c.args.arrival c.self.invariant (ap (λ (st : ProcessorState). st.history) c.self.view_is) (ap (λ (st : ProcessorState). st.key) c.self.view_is) (ap (λ (st : ProcessorState). st.looked) c.self.view_is) c.requires.running c.requires.follows c.requires.tags) in
     subst (λ (s : Shape). All (IsInForm s) c.self.inside.looked.items) (sym c.self.invariant.held_is.shape) ready.in_form
 
 pub finish-requires-clause-leaf : goal.finish-requires-clause-leaf
 finish-requires-clause-leaf c =
-    let ready = (done_ready c.args.arrival c.self.invariant (ap (λ (st : ProcessorState). st.history) c.self.view_is) (ap (λ (st : ProcessorState). st.looked) c.self.view_is) c.requires.running c.requires.follows) in
+    let ready = (done_ready c.args.arrival c.self.invariant (ap (λ (st : ProcessorState). st.history) c.self.view_is) (ap (λ (st : ProcessorState). st.key) c.self.view_is) (ap (λ (st : ProcessorState). st.looked) c.self.view_is) c.requires.running c.requires.follows c.requires.tags) in
     let row = (row_is c.self.invariant ready.there (omega (arith, c.self.inside.fetches.ok)) c.index.ensures) in
     leaf_fits (ap (λ (h : HoldingsState). h.shape) c.take_in.ensures.others ∙ c.self.invariant.held_is.shape) row.0 ready.small
 
@@ -51,27 +51,27 @@ finish-requires-clause-path c =
 
 pub finish-requires-clause-arrived : goal.finish-requires-clause-arrived
 finish-requires-clause-arrived c =
-    let ready = (done_ready c.args.arrival c.self.invariant (ap (λ (st : ProcessorState). st.history) c.self.view_is) (ap (λ (st : ProcessorState). st.looked) c.self.view_is) c.requires.running c.requires.follows) in
+    let ready = (done_ready c.args.arrival c.self.invariant (ap (λ (st : ProcessorState). st.history) c.self.view_is) (ap (λ (st : ProcessorState). st.key) c.self.view_is) (ap (λ (st : ProcessorState). st.looked) c.self.view_is) c.requires.running c.requires.follows c.requires.tags) in
     ready.asked
 
 pub finish-requires-clause-under_way : goal.finish-requires-clause-under_way
 finish-requires-clause-under_way c =
-    let ready = (done_ready c.args.arrival c.self.invariant (ap (λ (st : ProcessorState). st.history) c.self.view_is) (ap (λ (st : ProcessorState). st.looked) c.self.view_is) c.requires.running c.requires.follows) in
+    let ready = (done_ready c.args.arrival c.self.invariant (ap (λ (st : ProcessorState). st.history) c.self.view_is) (ap (λ (st : ProcessorState). st.key) c.self.view_is) (ap (λ (st : ProcessorState). st.looked) c.self.view_is) c.requires.running c.requires.follows c.requires.tags) in
     ready.under_way
 
 pub finish-requires-clause-on_block : goal.finish-requires-clause-on_block
 finish-requires-clause-on_block c =
-    let ready = (done_ready c.args.arrival c.self.invariant (ap (λ (st : ProcessorState). st.history) c.self.view_is) (ap (λ (st : ProcessorState). st.looked) c.self.view_is) c.requires.running c.requires.follows) in
+    let ready = (done_ready c.args.arrival c.self.invariant (ap (λ (st : ProcessorState). st.history) c.self.view_is) (ap (λ (st : ProcessorState). st.key) c.self.view_is) (ap (λ (st : ProcessorState). st.looked) c.self.view_is) c.requires.running c.requires.follows c.requires.tags) in
     ready.on_block
 
 pub finish-requires-clause-block : goal.finish-requires-clause-block
 finish-requires-clause-block c =
-    let ready = (done_ready c.args.arrival c.self.invariant (ap (λ (st : ProcessorState). st.history) c.self.view_is) (ap (λ (st : ProcessorState). st.looked) c.self.view_is) c.requires.running c.requires.follows) in
+    let ready = (done_ready c.args.arrival c.self.invariant (ap (λ (st : ProcessorState). st.history) c.self.view_is) (ap (λ (st : ProcessorState). st.key) c.self.view_is) (ap (λ (st : ProcessorState). st.looked) c.self.view_is) c.requires.running c.requires.follows c.requires.tags) in
     λ real. subst (λ (s : Shape). block_of c.self.inside.requests.requests c.args.arrival < s.n) (sym (ap (λ (h : HoldingsState). h.shape) c.take_in.ensures.others ∙ c.self.invariant.held_is.shape)) (ready.block real)
 
 pub finish-requires-clause-some : goal.finish-requires-clause-some
 finish-requires-clause-some c =
-    let ready = (done_ready c.args.arrival c.self.invariant (ap (λ (st : ProcessorState). st.history) c.self.view_is) (ap (λ (st : ProcessorState). st.looked) c.self.view_is) c.requires.running c.requires.follows) in
+    let ready = (done_ready c.args.arrival c.self.invariant (ap (λ (st : ProcessorState). st.history) c.self.view_is) (ap (λ (st : ProcessorState). st.key) c.self.view_is) (ap (λ (st : ProcessorState). st.looked) c.self.view_is) c.requires.running c.requires.follows c.requires.tags) in
     ready.room.values
 
 pub finish-requires-clause-each : goal.finish-requires-clause-each
@@ -80,7 +80,7 @@ finish-requires-clause-each c =
 
 pub end_fetch-requires-clause-leaf : goal.end_fetch-requires-clause-leaf
 end_fetch-requires-clause-leaf c =
-    let ready = (done_ready c.args.arrival c.self.invariant (ap (λ (st : ProcessorState). st.history) c.self.view_is) (ap (λ (st : ProcessorState). st.looked) c.self.view_is) c.requires.running c.requires.follows) in
+    let ready = (done_ready c.args.arrival c.self.invariant (ap (λ (st : ProcessorState). st.history) c.self.view_is) (ap (λ (st : ProcessorState). st.key) c.self.view_is) (ap (λ (st : ProcessorState). st.looked) c.self.view_is) c.requires.running c.requires.follows c.requires.tags) in
     let row = (row_is c.self.invariant ready.there (omega (arith, c.self.inside.fetches.ok)) c.index.ensures) in
     leaf_fits (ap (λ (h : HoldingsState). h.shape) c.finish.ensures.done.others ∙ ap (λ (h : HoldingsState). h.shape) c.take_in.ensures.others ∙ c.self.invariant.held_is.shape) row.0 ready.small
 
@@ -90,7 +90,7 @@ end_fetch-requires-clause-path c =
 
 pub end_fetch-requires-clause-begun : goal.end_fetch-requires-clause-begun
 end_fetch-requires-clause-begun c =
-    let ready = (done_ready c.args.arrival c.self.invariant (ap (λ (st : ProcessorState). st.history) c.self.view_is) (ap (λ (st : ProcessorState). st.looked) c.self.view_is) c.requires.running c.requires.follows) in
+    let ready = (done_ready c.args.arrival c.self.invariant (ap (λ (st : ProcessorState). st.history) c.self.view_is) (ap (λ (st : ProcessorState). st.key) c.self.view_is) (ap (λ (st : ProcessorState). st.looked) c.self.view_is) c.requires.running c.requires.follows c.requires.tags) in
     let row = (row_is c.self.invariant ready.there (omega (arith, c.self.inside.fetches.ok)) c.index.ensures) in
     λ w on.
     subst (λ (n : ℕ → ℕ). 1 ≤ n w) (sym (ap (λ (h : HoldingsState). count_in h) c.finish.ensures.done.others ∙ ap (λ (h : HoldingsState). count_in h) c.take_in.ensures.others))
@@ -98,33 +98,33 @@ end_fetch-requires-clause-begun c =
 
 pub done-requires-clause-limit : goal.done-requires-clause-limit
 done-requires-clause-limit c =
-    let ready = (done_ready c.args.arrival c.self.invariant (ap (λ (st : ProcessorState). st.history) c.self.view_is) (ap (λ (st : ProcessorState). st.looked) c.self.view_is) c.requires.running c.requires.follows) in
+    let ready = (done_ready c.args.arrival c.self.invariant (ap (λ (st : ProcessorState). st.history) c.self.view_is) (ap (λ (st : ProcessorState). st.key) c.self.view_is) (ap (λ (st : ProcessorState). st.looked) c.self.view_is) c.requires.running c.requires.follows c.requires.tags) in
     ready.limit
 
 pub done-requires-clause-once : goal.done-requires-clause-once
 done-requires-clause-once c =
-    let ready = (done_ready c.args.arrival c.self.invariant (ap (λ (st : ProcessorState). st.history) c.self.view_is) (ap (λ (st : ProcessorState). st.looked) c.self.view_is) c.requires.running c.requires.follows) in
+    let ready = (done_ready c.args.arrival c.self.invariant (ap (λ (st : ProcessorState). st.history) c.self.view_is) (ap (λ (st : ProcessorState). st.key) c.self.view_is) (ap (λ (st : ProcessorState). st.looked) c.self.view_is) c.requires.running c.requires.follows c.requires.tags) in
     ready.once
 
 pub touch_path-requires-clause-leaf : goal.touch_path-requires-clause-leaf
 touch_path-requires-clause-leaf c =
-    let ready = (done_ready c.args.arrival c.self.invariant (ap (λ (st : ProcessorState). st.history) c.self.view_is) (ap (λ (st : ProcessorState). st.looked) c.self.view_is) c.requires.running c.requires.follows) in
+    let ready = (done_ready c.args.arrival c.self.invariant (ap (λ (st : ProcessorState). st.history) c.self.view_is) (ap (λ (st : ProcessorState). st.key) c.self.view_is) (ap (λ (st : ProcessorState). st.looked) c.self.view_is) c.requires.running c.requires.follows c.requires.tags) in
     let row = (row_is c.self.invariant ready.there (omega (arith, c.self.inside.fetches.ok)) c.index.ensures) in
     leaf_fits (sym c.self.invariant.record_is.shape) row.0 ready.small
 
 pub touch_path-requires-clause-rises : goal.touch_path-requires-clause-rises
 touch_path-requires-clause-rises c =
-    let ready = (done_ready c.args.arrival c.self.invariant (ap (λ (st : ProcessorState). st.history) c.self.view_is) (ap (λ (st : ProcessorState). st.looked) c.self.view_is) c.requires.running c.requires.follows) in
+    let ready = (done_ready c.args.arrival c.self.invariant (ap (λ (st : ProcessorState). st.history) c.self.view_is) (ap (λ (st : ProcessorState). st.key) c.self.view_is) (ap (λ (st : ProcessorState). st.looked) c.self.view_is) c.requires.running c.requires.follows c.requires.tags) in
     ready.rising
 
 pub touch_path-requires-clause-room : goal.touch_path-requires-clause-room
 touch_path-requires-clause-room c =
-    let ready = (done_ready c.args.arrival c.self.invariant (ap (λ (st : ProcessorState). st.history) c.self.view_is) (ap (λ (st : ProcessorState). st.looked) c.self.view_is) c.requires.running c.requires.follows) in
+    let ready = (done_ready c.args.arrival c.self.invariant (ap (λ (st : ProcessorState). st.history) c.self.view_is) (ap (λ (st : ProcessorState). st.key) c.self.view_is) (ap (λ (st : ProcessorState). st.looked) c.self.view_is) c.requires.running c.requires.follows c.requires.tags) in
     let high = ap (λ (s : Shape). s.l) c.self.invariant.record_is.shape in let space = ready.space in omega (arith, c.self.inside.recent.ok)
 
 pub invariant_of-self : goal.invariant_of-self
 invariant_of-self c =
-    let ready = (done_ready c.args.arrival c.self.invariant (ap (λ (st : ProcessorState). st.history) c.self.view_is) (ap (λ (st : ProcessorState). st.looked) c.self.view_is) c.requires.running c.requires.follows) in
+    let ready = (done_ready c.args.arrival c.self.invariant (ap (λ (st : ProcessorState). st.history) c.self.view_is) (ap (λ (st : ProcessorState). st.key) c.self.view_is) (ap (λ (st : ProcessorState). st.looked) c.self.view_is) c.requires.running c.requires.follows c.requires.tags) in
     let row = (row_is c.self.invariant ready.there (omega (arith, c.self.inside.fetches.ok)) c.index.ensures) in
     done_keeps c.self.invariant ready c.forms.ensures row refl (record {
       adds = c.add_done.ensures ∙ ap (λ (bs : List Bucket). record (added c.self.inside.session (Done c.args.arrival bs)) { dones = c.self.inside.session.dones - 1 }) c.deref.ensures.value;

@@ -11,7 +11,8 @@ wanted_now-wanted-requires-clause-within c = let small = (counts_small c.self.in
 
 pub top_up-requires : goal.top_up-requires
 top_up-requires c = record {
-  each = subst (λ n. All (λ value. length value ≡ n) c.self.inside.values.items) (sym c.b-b.ensures.value) c.self.invariant.blocks;
+  each = c.self.invariant.blocks;
+  order_rooms = c.self.invariant.order_rooms;
 }
 
 pub invariant_of-self : goal.invariant_of-self
@@ -23,7 +24,8 @@ invariant_of-self c =
       rows_stay = c.in-Ok.ensures.rows;
       count_stays = c.in-Ok.ensures.row_count;
       places_stay = c.in-Ok.ensures.places;
-      each = subst (λ n. All (λ value. length value ≡ n) c.top_up.new.values.items) c.b-b.ensures.value c.in-Ok.ensures.each;
+      each = c.in-Ok.ensures.each;
+      order_rooms = c.in-Ok.ensures.order_rooms;
     })
     (c.wanted_now-wanted.ensures ∙ ap (λ n. wanted c.self.inside.p n c.self.inside.dones c.self.inside.issues c.self.inside.acks) c.len.ensures) c.in-Ok.ensures.ok
 
@@ -36,5 +38,6 @@ invariant_of-self-in-Err c =
       rows_stay = c.in-Err.ensures.rows;
       count_stays = c.in-Err.ensures.row_count;
       places_stay = c.in-Err.ensures.places;
-      each = subst (λ n. All (λ value. length value ≡ n) c.top_up.new.values.items) c.b-b.ensures.value c.in-Err.ensures.each;
+      each = c.in-Err.ensures.each;
+      order_rooms = c.in-Err.ensures.order_rooms;
     }) c.in-Err.ensures.grown
