@@ -1,5 +1,5 @@
 -- A write-back keeps the invariant.
-use Rattle.std.proofs.Common.{◌≡◌, ℕ, ◌+◌, ◌-◌, ◌*◌, ◌^◌, ◌<◌, ◌≤◌, Bool, true, false, cond, List, [], ◌∷◌, ◌++◌, length, filter, map, reverse, All, refl, sym, ap, ◌∙◌, subst, arith, nat_eq, nat_lt, get_or}
+use Rattle.std.proofs.Common.{◌≡◌, ℕ, ◌+◌, ◌-◌, ◌*◌, ◌^◌, ◌<◌, ◌≤◌, Bool, true, false, cond, List, [], ◌∷◌, ◌++◌, length, filter, map, reverse, All, refl, sym, ap, ap₂, ◌∙◌, subst, arith, nat_eq, nat_lt, get_or}
 use Rattle.std.specs.List.{list_any, range_with_len}
 use Rattle.std.specs.List.Sorted.{IsStrictlyIncreasing}
 use Rattle.std.proofs.Math.Pow.{pow_mono}
@@ -15,7 +15,10 @@ use Rattle.tao_base.specs.declared.session.Event.TheVariants.{Issue}
 use Rattle.tao_base.specs.declared.storage.Bucket.{Bucket}
 use Rattle.tao_base.specs.declared.storage.Entry.{Entry}
 use Rattle.tao_base.specs.Session.{Opening, History}
-use Rattle.tao_base.specs.Limits.{Shape, session_limit}
+use Rattle.tao_base.specs.Limits.{Shape, IsShape, bucket_len, session_limit}
+use Rattle.tao_base.specs.Links.{FitsLinks}
+use Rattle.tao_images.proofs.OrderLemmas.{fits}
+use Rattle.tao_processor.proofs.OrdersSent.{image_long, sent_nodes}
 use Rattle.tao_base.specs.Tree.{node_count}
 use Rattle.tao_model.specs.Events.{arrived, dones, issues, acks, has_fault}
 use Rattle.tao_model.specs.Residence.{last_touch}
@@ -45,6 +48,7 @@ use Rattle.tao_requests.proofs.Followed.{follows_further}
 use Rattle.tao_holdings.specs.Holding.{HoldingsState, is_held, contents_in, count_in, touch_in, version_in, written_at}
 use Rattle.tao_holdings.specs.Lists.{with_entries_of}
 use Rattle.tao_processor.specs.Steps.{IsNodeOf, IsEmpty, stamps, written_of, HoldsAgain}
+use Rattle.tao_processor.specs.State.{ProcessorState, Issues, with_event}
 use Rattle.tao_processor.specs.Groups.{Parts, IsProcessor, NodesAre, pools_of}
 use Rattle.tao_base.specs.declared.storage.Order.{Order}
 use Rattle.tao_bucket.specs.Encoding.{format_of, tag_of}
@@ -169,6 +173,45 @@ ready_to_issue x is due = record {
 
 pub issue_ready : {x : Parts} {h : History} → IsProcessor x → x.session.history ≡ h → dones (reverse h.events) ≡ (issues (reverse h.events) + 1) * h.opening.shape.k → IsReadyToIssue x
 issue_ready {x} {h} is same due = ready_to_issue x is (subst (λ (g : History). dones (reverse g.events) ≡ (issues (reverse g.events) + 1) * g.opening.shape.k) (sym same) due)
+
+-- what holds of the order of a write-back
+pub record IsSentWell (x : Parts) (version : ℕ) (order : Order) : Type 0 where
+  pub sends : IsOrderOf x.key x.shape version x.next_nonce (written_of (contents_in x.holdings) x.recent version x.next_nonce) order
+  pub image : length order.image ≡ length order.nodes * bucket_len x.shape
+  pub rising : IsStrictlyIncreasing order.nodes
+  pub places : format_of x.shape.form order.version ≡ 2 → All (λ node. node < length x.tags) order.nodes
+  pub fits : FitsLinks x.shape order
+
+pub sent_well : {x : Parts} {version : ℕ} {nodes : List ℕ} {order : Order} → IsProcessor x → IsReadyToIssue x → nodes ≡ x.recent
+    → IsOrderOf x.key x.shape version x.next_nonce (written_of (contents_in x.holdings) nodes version x.next_nonce) order
+    → All (IsInForm x.holdings.shape) (written_of (contents_in x.holdings) nodes version x.next_nonce) → IsSentWell x version order
+sent_well {x} {version} {nodes} {order} is ready same sent forms = record {
+  sends = sends;
+  image = image_long x.key x.shape version x.next_nonce buckets order shape sends in_form;
+  rising = subst (λ (ns : List ℕ). IsStrictlyIncreasing ns) (sym named) ready.rising;
+  places = λ two. subst (λ (ns : List ℕ). All (λ node. node < length x.tags) ns) (sym named) (ready.tag_places order.version (ap (λ (s : Shape). format_of s.form order.version) is.record_is.shape ∙ two));
+  fits = fits x.key x.shape version x.next_nonce buckets order shape sends in_form (
+    let few = subst (λ (s : Shape). length x.recent ≤ issue_len s) is.record_is.shape ready.few in
+    let long = written_len (contents_in x.holdings) x.recent version x.next_nonce in
+    omega (arith, few, long)
+  );
+}
+  where
+    buckets : List Bucket
+    buckets = written_of (contents_in x.holdings) x.recent version x.next_nonce
+
+    shape : IsShape x.shape
+    shape = subst IsShape is.record_is.shape (follows_opening x.session.history.opening (reverse x.session.history.events) is.record_is.proxy.follows).shape
+
+    sends : IsOrderOf x.key x.shape version x.next_nonce buckets order
+    sends = subst (λ (ns : List ℕ). IsOrderOf x.key x.shape version x.next_nonce (written_of (contents_in x.holdings) ns version x.next_nonce) order) same sent
+
+    in_form : All (IsInForm x.shape) buckets
+    in_form = subst (λ (s : Shape). All (IsInForm s) buckets) (is.held_is.shape ∙ is.record_is.shape)
+        (subst (λ (ns : List ℕ). All (IsInForm x.holdings.shape) (written_of (contents_in x.holdings) ns version x.next_nonce)) same forms)
+
+    named : order.nodes ≡ x.recent
+    named = sent_nodes x.key x.shape (contents_in x.holdings) x.recent version x.next_nonce order sends
 
 -- what the calls of a write-back do
 pub record DoesIssue (x : Parts) (version : ℕ) (session : RecordState) (h1 h2 : HoldingsState) (written : List Bucket) (places : List ℕ) (place_room nonce : ℕ) (kept : List (List ℕ))
@@ -302,3 +345,30 @@ issue_keeps {x} {version} {nonce} {recent_room} {place_room} {session} {h1} {h2}
       rows = omega arith;
       places = let less = does.no_less in omega arith;
     }
+
+-- what contracts see of it
+pub issues_so : (x : Parts) (looked : List Bucket) (version : ℕ) (order : Order) (session : RecordState) (h2 : HoldingsState) (old : ProcessorState) → IsProcessor x → version ≡ x.issue_count + 1
+    → (record { key = x.key; history = x.session.history; holdings = x.holdings; ready = x.ready; looked = looked }) ≡ old
+    → session ≡ record (added x.session (Issue version x.next_nonce (written_of (contents_in x.holdings) x.recent version x.next_nonce))) { issues = x.session.issues - 1 }
+    → IsSentWell x version order → Issues old (record { key = x.key; history = session.history; holdings = h2; ready = x.ready; looked = looked }) order
+issues_so x looked version order session h2 old is numbered same adds well =
+    subst (λ (st : ProcessorState). Issues st (record { key = x.key; history = session.history; holdings = h2; ready = x.ready; looked = looked }) order) same (record {
+      buckets = buckets;
+      state = ap (λ (h : History). record { key = x.key; history = h; holdings = h2; ready = x.ready; looked = looked })
+          (ap (λ (r : RecordState). r.history) adds ∙ ap₂ (λ v n. with_event x.session.history (Issue v n buckets)) next (sym nonce_is));
+      sends = subst (λ v. IsOrderOf x.key o.shape v order.nonce buckets order) next
+          (subst (λ n. IsOrderOf x.key o.shape version n buckets order) (sym nonce_is) (subst (λ (s : Shape). IsOrderOf x.key s version x.next_nonce buckets order) (sym is.record_is.shape) well.sends));
+      fits = subst (λ (s : Shape). FitsLinks s order) (sym is.record_is.shape) well.fits;
+    })
+  where
+    o : Opening
+    o = x.session.history.opening
+
+    buckets : List Bucket
+    buckets = written_of (contents_in x.holdings) x.recent version x.next_nonce
+
+    next : version ≡ issues (reverse x.session.history.events) + 1
+    next = numbered ∙ ap (λ m. m + 1) is.writes.issues
+
+    nonce_is : order.nonce ≡ x.next_nonce
+    nonce_is = ap (λ (y : Order). y.nonce) well.sends

@@ -85,6 +85,6 @@ rest_stays bs i b rest k d past low =
     ap (λ (x : Bucket). x.entries) (get_or-set_other bs i k b d (omega arith)) ∙ rest k d (omega arith) (omega arith)
 
 -- a whole list written back
-pub whole_front : (n : ℕ) (xs ys : List Bucket) → length xs ≡ length ys → n ≡ length ys → take n (xs ++ drop (length xs) ys) ≡ xs
-whole_front n xs ys same long =
-    ap (λ (zs : List Bucket). take n (xs ++ zs)) (drop_all (length xs) ys (omega arith)) ∙ ap (take n) (append-nil xs) ∙ take_all n xs (omega arith)
+pub whole_front : {X : Type 0} (n : ℕ) (xs ys : List X) → length xs ≡ length ys → n ≡ length ys → take n (xs ++ drop (length xs) ys) ≡ xs
+whole_front {X} n xs ys same long =
+    ap (λ (zs : List X). take n (xs ++ zs)) (drop_all (length xs) ys (omega arith)) ∙ ap (take n) (append-nil xs) ∙ take_all n xs (omega arith)

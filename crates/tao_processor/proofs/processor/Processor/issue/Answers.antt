@@ -1,4 +1,4 @@
-use Rattle.std.proofs.Common.{◌≡◌, ℕ, ◌+◌, ◌-◌, ◌*◌, ◌<◌, ◌≤◌, Bool, true, false, length, reverse, All, List, [], ◌∷◌, ◌++◌, refl, sym, ap, ◌∙◌, subst, arith}
+use Rattle.std.proofs.Common.{vec_len, ◌≡◌, ℕ, ◌+◌, ◌-◌, ◌*◌, ◌<◌, ◌≤◌, Bool, true, false, length, reverse, All, List, [], ◌∷◌, ◌++◌, refl, sym, ap, ◌∙◌, subst, arith}
 use Rattle.std.specs.List.Sorted.{IsStrictlyIncreasing}
 use Rattle.tao_base.specs.Limits.{Shape}
 use Rattle.tao_base.specs.Session.{History}
@@ -10,7 +10,10 @@ use Rattle.tao_record.specs.State.{issue_len, added}
 use Rattle.tao_holdings.specs.Holding.{HoldingsState, is_held, version_in, contents_in, written_at}
 use Rattle.tao_processor.specs.State.{ProcessorState}
 use Rattle.tao_processor.specs.Steps.{IsNodeOf, IsEmpty, written_of}
-use Rattle.tao_processor.proofs.IssueKept.{issue_ready, issue_keeps}
+use Rattle.tao_bucket.specs.Encoding.{format_of}
+use Rattle.tao_processor.specs.Tags.{KeepsTagsOf}
+use Rattle.tao_processor.proofs.IssueKept.{issue_ready, issue_keeps, sent_well, issues_so}
+use Rattle.tao_processor.proofs.OrdersSent.{room_for_fewer}
 use Rattle.tao_processor.proofs.WrittenBack.{whole_front}
 use Rattle.tao_base.specs.declared.storage.Bucket.{Bucket}
 use Rattle.tao_processor.proofs.processor.Processor.issue.Goals as goal
@@ -90,7 +93,10 @@ invariant_of-self c =
     let a = c.write_back.ensures.count in let b = c.deref_mut.ensures.len in omega (arith, c.self.inside.written.ok) in
     let whole = whole_front _ c.write_back.new.written c.self.inside.written.items long (omega (arith, c.self.inside.written.ok, c.deref_mut.ensures.len)) in
     let capacity = c.push_reserved.ensures.capacity in
-    issue_keeps c.self.invariant
+    let well = sent_well c.self.invariant ready c.deref.ensures.value c.write_back.ensures.order c.write_back.ensures.in_form in
+    let many : length c.keep_tags.new.tags ≡ length c.self.inside.tags.items = c.keep_tags.auto.tags ∙ ap (λ (ts : List (List ℕ)). length ts) c.deref_mut-2.ensures.value in
+    let whole_tags = whole_front (vec_len c.self.inside.tags) c.keep_tags.new.tags c.self.inside.tags.items many (omega (arith, c.self.inside.tags.ok)) in
+    issue_keeps {order = c.write_back.new.order} c.self.invariant
     (subst (λ (h : History). has_fault (reverse h.events) ≡ false) (sym history) c.requires.running)
     (subst (λ (h : History). dones (reverse h.events) ≡ (issues (reverse h.events) + 1) * h.opening.shape.k) (sym history) c.requires.due)
     ready (record {
@@ -105,4 +111,51 @@ invariant_of-self c =
       placed = c.push_reserved.ensures.items ∙ ap (λ (es : List Event). c.self.inside.places.items ++ length es ∷ []) c.events-place.ensures;
       no_less = omega arith;
       next = omega (arith, c.self.inside.recent.ok, c.len.ensures);
+      sends = well.sends;
+      keeps = subst (λ (ts : List (List ℕ)). KeepsTagsOf c.self.inside.p c.write_back.new.order c.self.inside.tags.items ts) (sym whole_tags)
+          (subst (λ (ts : List (List ℕ)). KeepsTagsOf c.self.inside.p c.write_back.new.order ts c.keep_tags.new.tags) c.deref_mut-2.ensures.value c.keep_tags.ensures);
+      left = c.take_order-order.ensures.left c.self.inside.p (issue_len c.self.inside.p) c.self.invariant.order_rooms;
+      one_less = c.take_order-order.ensures.len;
     }) (c.truncate.ensures.items) (let kept = c.truncate.ensures.capacity in omega arith)
+
+pub take_order-order-requires : goal.take_order-order-requires
+take_order-order-requires c =
+    let ready = (issue_ready c.self.invariant (ap (λ (st : ProcessorState). st.history) c.self.view_is) c.requires.due) in
+    let there = ready.room.orders in omega (arith, there)
+
+pub write_back-requires-clause-room : goal.write_back-requires-clause-room
+write_back-requires-clause-room c =
+    let ready = (issue_ready c.self.invariant (ap (λ (st : ProcessorState). st.history) c.self.view_is) c.requires.due) in
+    let few : length c.self.inside.recent.items ≤ issue_len c.self.inside.p = subst (λ (s : Shape). length c.self.inside.recent.items ≤ issue_len s) c.self.invariant.record_is.shape ready.few in
+    room_for_fewer c.self.inside.p (issue_len c.self.inside.p) (length c.deref.result.now) c.take_order-order.result (subst (λ (xs : List ℕ). length xs ≤ issue_len c.self.inside.p) (sym c.deref.ensures.value) few)
+    (c.take_order-order.ensures.order c.self.inside.p (issue_len c.self.inside.p) c.self.invariant.order_rooms)
+
+pub write_back-requires-clause-empty : goal.write_back-requires-clause-empty
+write_back-requires-clause-empty c = subst (λ (bs : List Bucket). All IsEmpty bs) (sym c.deref_mut.ensures.value) c.self.invariant.written_empty
+
+pub keep_tags-requires-clause-image : goal.keep_tags-requires-clause-image
+keep_tags-requires-clause-image c =
+    let ready = (issue_ready c.self.invariant (ap (λ (st : ProcessorState). st.history) c.self.view_is) c.requires.due) in
+    let well = sent_well c.self.invariant ready c.deref.ensures.value c.write_back.ensures.order c.write_back.ensures.in_form in
+    well.image
+
+pub keep_tags-requires-clause-rising : goal.keep_tags-requires-clause-rising
+keep_tags-requires-clause-rising c =
+    let ready = (issue_ready c.self.invariant (ap (λ (st : ProcessorState). st.history) c.self.view_is) c.requires.due) in
+    let well = sent_well c.self.invariant ready c.deref.ensures.value c.write_back.ensures.order c.write_back.ensures.in_form in
+    well.rising
+
+pub keep_tags-requires-clause-places : goal.keep_tags-requires-clause-places
+keep_tags-requires-clause-places c =
+    let ready = (issue_ready c.self.invariant (ap (λ (st : ProcessorState). st.history) c.self.view_is) c.requires.due) in
+    let well = sent_well c.self.invariant ready c.deref.ensures.value c.write_back.ensures.order c.write_back.ensures.in_form in
+    subst (λ (ts : List (List ℕ)). format_of c.self.inside.p.form c.write_back.new.order.version ≡ 2 → All (λ node. node < length ts) c.write_back.new.order.nodes) (sym c.deref_mut-2.ensures.value) well.places
+
+pub returns : goal.returns
+returns c =
+    let ready = (issue_ready c.self.invariant (ap (λ (st : ProcessorState). st.history) c.self.view_is) c.requires.due) in
+    let well = sent_well c.self.invariant ready c.deref.ensures.value c.write_back.ensures.order c.write_back.ensures.in_form in
+    record {
+      issued = issues_so _ c.self.inside.looked.items (c.self.inside.issues + 1) c.write_back.new.order c.write_back.new.session c.set_versions.new.self c.args.self.now c.self.invariant refl c.self.view_is
+          (c.write_back.ensures.recorded ∙ ap (λ (ns : List ℕ). record (added c.self.inside.session (Issue (c.self.inside.issues + 1) c.self.inside.nonce (written_of (contents_in c.self.inside.holdings) ns (c.self.inside.issues + 1) c.self.inside.nonce))) { issues = c.self.inside.session.issues - 1 }) c.deref.ensures.value) well;
+    }
