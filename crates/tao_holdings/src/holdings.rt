@@ -1,5 +1,5 @@
 //! What the proxy holds, as one type.
-ghost use Rattle.std.specs.Prelude.{◌≡◌, ℕ, None, IfOk, slice_set, count_by, is_some, vec_len, true, ◌+◌, ◌^◌, ◌<◌, ◌≤◌, [], map, not, filter, length, All};
+ghost use Rattle.std.specs.Prelude.{◌≡◌, ℕ, None, IfOk, slice_set, count_by, is_some, vec_len, vec_capacity, true, ◌+◌, ◌^◌, ◌<◌, ◌≤◌, [], map, not, filter, length, All};
 ghost use Rattle.std.specs.List.{slice_index_or};
 ghost use Rattle.std.specs.Option.{option_map, option_copied};
 ghost use Rattle.std.specs.List.Sorted.{IsStrictlyIncreasing};
@@ -89,6 +89,7 @@ impl Holdings {
         ensures contents { contents_in self.new ≡ take_in self.old.shape.l leaf (is_held self.old) (entries_at taken.old.items) (contents_in self.old) }
         ensures others { self.new ≡ record self.old { nodes = self.new.nodes } }
         ensures taken { taken.new.items ≡ [] }
+        ensures capacity { vec_capacity taken.old ≤ vec_capacity taken.new }
     {
         // for the proof: there is a place for each node
         let _ = self.subtree.is_resident(1);

@@ -1,5 +1,5 @@
 //! Admits fetched buckets.
-ghost use Rattle.std.specs.Prelude.{◌≡◌, ◌+◌, ◌≤◌, false, [], All, is_some, slice_set, Some};
+ghost use Rattle.std.specs.Prelude.{◌≡◌, ◌+◌, ◌≤◌, false, [], All, is_some, slice_set, vec_capacity, Some};
 ghost use Rattle.tao_base.specs.Tree.{node_count};
 ghost use Rattle.tao_subtree.specs.Residents.{resident_at, resident_count, KeepsRoom};
 ghost use Rattle.tao_holdings.specs.Lists.{with_taken, AreAway};
@@ -16,6 +16,7 @@ pub(crate) fn take_all(subtree: &mut Subtree, taken: &mut Vec<Bucket>)
     ensures state { subtree.new ≡ record subtree.old { residents = with_taken subtree.old.residents taken.old.items; spare = subtree.new.spare } }
     ensures kept { KeepsRoom subtree.old subtree.new }
     ensures taken { taken.new.items ≡ [] }
+    ensures capacity { vec_capacity taken.old ≤ vec_capacity taken.new }
 {
     while let Some(bucket) = taken.pop() {
         take_one(subtree, bucket);

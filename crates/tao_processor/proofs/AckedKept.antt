@@ -196,6 +196,7 @@ acked_keeps {x} {version} {nonce} {buckets} {session} {h} {marks} is ready at ad
           (sym (newest_first events (Acked version))) ready.room.left;
       blocks = is.blocks;
       order_rooms = is.order_rooms;
+      rooms_are = is.rooms_are;
       recent_fits = is.recent_fits;
       written_fits = is.written_fits;
       written_empty = is.written_empty;

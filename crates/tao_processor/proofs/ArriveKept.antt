@@ -140,6 +140,7 @@ arrive_keeps {x} {client} {op} {word} {leaf} {session} {h} {q} {rows} {count} {r
           (room_grows x.shape false (arrived es + 1) (dones es) (issues es) (acks es) spent left grows ready.room.left);
       blocks = is.blocks;
       order_rooms = is.order_rooms;
+      rooms_are = is.rooms_are;
       recent_fits = is.recent_fits;
       written_fits = is.written_fits;
       written_empty = is.written_empty;

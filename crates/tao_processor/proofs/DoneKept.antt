@@ -4,7 +4,7 @@ use Rattle.std.specs.Prelude.{slice_set}
 use Rattle.tao_base.specs.declared.session.Event.{Event}
 use Rattle.tao_base.specs.declared.session.Event.TheVariants.{Done}
 use Rattle.tao_base.specs.declared.storage.Bucket.{Bucket}
-use Rattle.tao_base.specs.Session.{Opening}
+use Rattle.tao_base.specs.Session.{Opening, History}
 use Rattle.tao_base.specs.Limits.{Shape}
 use Rattle.tao_model.specs.Events.{arrived, dones, issues, acks, word_of}
 use Rattle.tao_model.specs.Requests.{fetched_leaf}
@@ -23,6 +23,9 @@ use Rattle.tao_record.specs.State.{RecordState, added}
 use Rattle.tao_requests.specs.State.{RequestsState}
 use Rattle.tao_holdings.specs.Holding.{HoldingsState, is_held, contents_in, count_in, touch_in, AreForms, one_less, touched}
 use Rattle.tao_processor.specs.Steps.{Finishes, LeavesBlocks, settled_where, is_for_block, found_by}
+use Rattle.tao_bucket.specs.Rooms.{RoomState}
+use Rattle.tao_processor.specs.Rooms.{KeepsRooms, buckets_held}
+use Rattle.tao_processor.specs.State.{ProcessorState, with_event}
 use Rattle.tao_processor.specs.Groups.{Parts, IsProcessor, KeepsHoldings, KeepsRequests, pools_of}
 use Rattle.tao_processor.proofs.DoneHoldings.{DoesFetch, done_holdings}
 use Rattle.tao_processor.proofs.DoneReady.{IsReadyForDone}
@@ -31,7 +34,7 @@ use Rattle.tao_tables.proofs.KeptWrites.{writes_are_told}
 
 -- what the calls of a Done do, by the leaf, the word and the number that they were given
 pub record DoesDone (x : Parts) (i leaf word t : ℕ) (taken : List Bucket) (session : RecordState) (h1 h2 h3 : HoldingsState) (q : RequestsState) (done_flags : List Bool)
-    (recent : List ℕ) (room : ℕ) (values : List (List ℕ)) (value_count : ℕ) : Type 0 where
+    (recent : List ℕ) (room : ℕ) (values : List (List ℕ)) (value_count : ℕ) (rooms : List RoomState) (left : List Bucket) (space : ℕ) (stock : List Bucket) (stock_count : ℕ) : Type 0 where
   pub adds : session ≡ record (added x.session (Done i taken)) { dones = x.session.dones - 1 }
   pub held_now : is_held h1 ≡ with_path x.holdings.shape.l leaf (is_held x.holdings)
   pub taken_in : contents_in h1 ≡ take_in x.holdings.shape.l leaf (is_held x.holdings) (entries_at taken) (contents_in x.holdings)
@@ -44,18 +47,20 @@ pub record DoesDone (x : Parts) (i leaf word t : ℕ) (taken : List Bucket) (ses
   pub flag : done_flags ≡ slice_set x.done_flags i true
   pub puts : PutsPath x.shape.l leaf x.recent recent
   pub no_less : x.recent_room ≤ room
+  pub rooms_are : KeepsRooms x.shape rooms 0 left space stock
+  pub stock_less : stock_count + x.looked ≡ x.stock_count
 
 spare_stays : (a : Bool) (q : RequestsState) (i : ℕ) (v : List ℕ) → (settled_where a q i v).spare ≡ q.spare
 spare_stays true q i v = refl
 spare_stays false q i v = refl
 
 pub done_keeps : {x : Parts} {i leaf word t : ℕ} {taken : List Bucket} {session : RecordState} {h1 h2 h3 : HoldingsState} {q : RequestsState} {done_flags : List Bool} {recent : List ℕ} {room : ℕ}
-    {values : List (List ℕ)} {value_count : ℕ} → IsProcessor x → IsReadyForDone x i taken → AreForms x.holdings
+    {values : List (List ℕ)} {value_count : ℕ} {rooms : List RoomState} {left : List Bucket} {space : ℕ} {stock : List Bucket} {stock_count : ℕ} → IsProcessor x → IsReadyForDone x i taken → AreForms x.holdings
     → (leaf ≡ fetched_leaf x.session.history.opening (reverse x.session.history.events) i) × (word ≡ word_of (reverse x.session.history.events) i) → t ≡ x.done_count + 1
-    → DoesDone x i leaf word t taken session h1 h2 h3 q done_flags recent room values value_count
-    → IsProcessor (record x { session = session; requests = q; done_flags = done_flags; recent = recent; recent_room = room; done_count = x.done_count + 1; holdings = h3; values = values; value_count = value_count })
-done_keeps {x} {i} {leaf} {word} {t} {taken} {session} {h1} {h2} {h3} {q} {done_flags} {recent} {room} {values} {value_count} is ready forms row number does =
-    subst (λ (s : RecordState). IsProcessor (record x { session = s; requests = q; done_flags = done_flags; recent = recent; recent_room = room; done_count = x.done_count + 1; holdings = h3; values = values; value_count = value_count }))
+    → DoesDone x i leaf word t taken session h1 h2 h3 q done_flags recent room values value_count rooms left space stock stock_count
+    → IsProcessor (record x { session = session; requests = q; done_flags = done_flags; recent = recent; recent_room = room; done_count = x.done_count + 1; holdings = h3; values = values; value_count = value_count; rooms = rooms; looked = 0; taken = left; taken_room = space; stock = stock; stock_count = stock_count })
+done_keeps {x} {i} {leaf} {word} {t} {taken} {session} {h1} {h2} {h3} {q} {done_flags} {recent} {room} {values} {value_count} {rooms} {left} {space} {stock} {stock_count} is ready forms row number does =
+    subst (λ (s : RecordState). IsProcessor (record x { session = s; requests = q; done_flags = done_flags; recent = recent; recent_room = room; done_count = x.done_count + 1; holdings = h3; values = values; value_count = value_count; rooms = rooms; looked = 0; taken = left; taken_room = space; stock = stock; stock_count = stock_count }))
     (sym does.adds) (record {
       record_is = record {
         shape = is.record_is.shape;
@@ -72,10 +77,11 @@ done_keeps {x} {i} {leaf} {word} {t} {taken} {session} {h1} {h2} {h3} {q} {done_
       writes = (writes_are_told o events x.recent x.places x.done_count x.issue_count x.ack_count x.next_nonce is.writes).done i taken recent ready.lawful
           (subst (λ (s : Shape). PutsPath s.l (fetched_leaf o es i) x.recent recent) (sym is.record_is.shape) (subst (λ at. PutsPath x.shape.l at x.recent recent) row.0 does.puts));
       tagged = (tags_go_on x.key o events x.tags is.tagged).done i taken ready.honest;
-      pools = subst (λ now. HasPools x.shape x.ready (arrived now) (dones now) (issues now) (acks now) left) (sym (newest_first events (Done i taken)))
-          (room_grows x.shape x.ready (arrived es) (dones es + 1) (issues es) (acks es) spent left grows (ready.room.left 0 1 (omega arith) (omega arith)));
+      pools = subst (λ now. HasPools x.shape x.ready (arrived now) (dones now) (issues now) (acks now) now_left) (sym (newest_first events (Done i taken)))
+          (room_grows x.shape x.ready (arrived es) (dones es + 1) (issues es) (acks es) spent now_left grows (ready.room.left x.looked 1 is.rooms_are.within (omega arith)));
       order_rooms = is.order_rooms;
       blocks = subst (λ (s : Shape). All (λ value. length value ≡ s.b) values) shape1 does.blocks.each;
+      rooms_are = does.rooms_are;
       recent_fits = let less = does.no_less in let fits = is.recent_fits in omega (arith, less, fits);
       written_fits = is.written_fits;
       written_empty = is.written_empty;
@@ -115,20 +121,30 @@ done_keeps {x} {i} {leaf} {word} {t} {taken} {session} {h1} {h2} {h3} {q} {done_
     spare = ap (λ (r : RequestsState). r.spare) does.finishes.requests ∙ spare_stays (is_for_block x.requests i) x.requests i (found_by h1 x.requests i leaf)
 
     spent : Pools
-    spent = record (pools_of x) { dones = x.session.dones - 1; stock = x.stock_count - 0; values = x.value_count - 1 }
+    spent = record (pools_of x) { dones = x.session.dones - 1; stock = x.stock_count - x.looked; values = x.value_count - 1 }
 
-    left : Pools
-    left = record (pools_of x) { dones = x.session.dones - 1; values = value_count; requests = q.spare }
+    now_left : Pools
+    now_left = record (pools_of x) { dones = x.session.dones - 1; stock = stock_count; values = value_count; requests = q.spare }
 
-    grows : KeepsPools spent left
+    grows : KeepsPools spent now_left
     grows = record {
       dones = omega arith;
       issues = omega arith;
       others = omega arith;
       orders = omega arith;
-      stock = omega arith;
+      stock = let less = does.stock_less in omega (arith, less);
       values = let few = does.blocks.few in omega arith;
       requests = omega (arith, spare);
       rows = omega arith;
       places = omega arith;
     }
+
+-- what contracts see of it
+pub done_so : {x : Parts} (looked taken : List Bucket) (i : ℕ) (session : RecordState) (h3 : HoldingsState) (rooms : List RoomState) (old : ProcessorState) → IsProcessor x
+    → (record { key = x.key; history = x.session.history; holdings = x.holdings; ready = x.ready; looked = looked }) ≡ old → taken ≡ looked
+    → session ≡ record (added x.session (Done i taken)) { dones = x.session.dones - 1 }
+    → (record { key = x.key; history = session.history; holdings = h3; ready = x.ready; looked = buckets_held 0 rooms }) ≡ record old { history = with_event old.history (Done i old.looked); holdings = h3; looked = [] }
+done_so {x} looked taken i session h3 rooms old is same here adds =
+    subst (λ (st : ProcessorState). (record { key = x.key; history = session.history; holdings = h3; ready = x.ready; looked = buckets_held 0 rooms }) ≡ record st { history = with_event st.history (Done i st.looked); holdings = h3; looked = [] }) same
+    (ap (λ (h : History). record { key = x.key; history = h; holdings = h3; ready = x.ready; looked = [] })
+    (ap (λ (r : RecordState). r.history) adds ∙ ap (λ (bs : List Bucket). with_event x.session.history (Done i bs)) here))

@@ -268,6 +268,7 @@ issue_keeps {x} {version} {nonce} {recent_room} {place_room} {session} {h1} {h2}
           (room_grows x.shape x.ready (arrived es) (dones es) (issues es + 1) (acks es) spent left grows ready.room.left);
       blocks = is.blocks;
       order_rooms = does.left;
+      rooms_are = is.rooms_are;
       recent_fits = let fits = is.recent_fits in omega (arith, fits, wide);
       written_fits = let fits = is.written_fits in let long = does.as_long in omega arith;
       written_empty = does.empty;

@@ -69,6 +69,7 @@ fault_core {x} cause is running may = record {
   pools = subst (λ es. HasPools x.shape x.ready (arrived es) (dones es) (issues es) (acks es) (pools_of x)) (sym (newest_first events (Fault cause))) is.pools;
   blocks = is.blocks;
   order_rooms = is.order_rooms;
+  rooms_are = is.rooms_are;
   recent_fits = is.recent_fits;
   written_fits = is.written_fits;
   written_empty = is.written_empty;

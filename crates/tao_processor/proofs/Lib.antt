@@ -6,6 +6,8 @@ pub mod DoneReady
 pub mod Finished
 pub mod IssueKept
 pub mod Kept
+pub mod Looked
+pub mod MetNodes
 pub mod Opened
 pub mod OrdersSent
 pub mod ReserveKept

@@ -32,6 +32,8 @@ use Rattle.tao_holdings.specs.Holding.{HoldingsState, is_held, contents_in, entr
 use Rattle.tao_images.specs.Orders.{IsOrderRoom}
 use Rattle.tao_base.specs.declared.storage.Order.{Order}
 use Rattle.tao_processor.specs.Steps.{AreEmptyBuckets}
+use Rattle.tao_bucket.specs.Rooms.{RoomState}
+use Rattle.tao_processor.specs.Rooms.{KeepsRooms}
 use Rattle.tao_processor.specs.Tags.{HasTagsOf}
 use Rattle.tao_processor.proofs.TagsKept.{tags_from_load}
 use Rattle.tao_processor.specs.Groups.{IsProcessor, row_leaf, row_word}
@@ -43,9 +45,17 @@ none_at n w x d same = either (cases_lt w n)
     either (inl low) = get_or-replicate n w x d low ∙ same
     either (inr past) = get_or-eq_default (replicate n x) d (let long = length-replicate n x in omega (arith, long))
 
-pub opened_keeps : (key : List ℕ) (kept : List (List ℕ)) (s : Shape) (words : List ℕ) (blocks : List (List ℕ)) (loaded written : List Bucket) (stash : List Entry) (row_room place_room recent_room orders stock : ℕ) → IsShape s → length words ≡ s.n
+-- the loaded tree is that of an opening
+pub loaded_opens : (s : Shape) (words : List ℕ) (blocks : List (List ℕ)) (loaded : List Bucket) (stash : List Entry) → IsShape s → length words ≡ s.n → length blocks ≡ s.n
+    → All (λ value. length value ≡ s.b) blocks → IsLoaded s (leaf_by (none_held s stash words)) blocks loaded stash
+    → OpensWithLoad (record { shape = s; words = words; first = blocks; loaded = loaded })
+loaded_opens s words blocks loaded stash shape word_count block_count values load =
+    (opens_by_load (record { shape = s; words = words; first = blocks; loaded = loaded }) (leaf_by (none_held s stash words))
+    (record { shape = shape; words = word_count; blocks = block_count; values = values }) (λ b low. refl) load.first).0
+
+pub opened_keeps : (key : List ℕ) (kept : List (List ℕ)) (rooms : List RoomState) (taken stock_list : List Bucket) (space : ℕ) (s : Shape) (words : List ℕ) (blocks : List (List ℕ)) (loaded written : List Bucket) (stash : List Entry) (row_room place_room recent_room orders stock : ℕ) → IsShape s → length words ≡ s.n
     → length blocks ≡ s.n → All (λ value. length value ≡ s.b) blocks → IsLoaded s (leaf_by (none_held s stash words)) blocks loaded stash
-    → AreEmptyBuckets (issue_len s) written → s.k * (s.l + 1) ≤ recent_room → HasTagsOf key s loaded kept
+    → AreEmptyBuckets (issue_len s) written → s.k * (s.l + 1) ≤ recent_room → HasTagsOf key s loaded kept → KeepsRooms s rooms 0 taken space stock_list
     → IsProcessor (record {
       shape = s;
       key = key;
@@ -71,10 +81,15 @@ pub opened_keeps : (key : List ℕ) (kept : List (List ℕ)) (s : Shape) (words 
       value_count = 0;
       orders = [];
       order_count = orders;
+      stock = stock_list;
       stock_count = stock;
       ready = false;
+      rooms = rooms;
+      looked = 0;
+      taken = taken;
+      taken_room = space;
     })
-opened_keeps key kept s words blocks loaded written stash row_room place_room recent_room orders stock shape word_count block_count values load empties wide has = record {
+opened_keeps key kept rooms taken stock_list space s words blocks loaded written stash row_room place_room recent_room orders stock shape word_count block_count values load empties wide has rooms_are = record {
   record_is = record { shape = refl; proxy = record { opens = start.0; follows = opening; writes = tt } };
   held_is = record {
     shape = refl;
@@ -90,6 +105,7 @@ opened_keeps key kept s words blocks loaded written stash row_room place_room re
   pools = room_at_start s _ shape.period_low;
   blocks = All-nil (λ value. length value ≡ s.b);
   order_rooms = All-nil (IsOrderRoom s (issue_len s));
+  rooms_are = rooms_are;
   recent_fits = wide;
   written_fits = let long = empties.len in omega arith;
   written_empty = empties.empty;
@@ -119,23 +135,23 @@ opened_keeps key kept s words blocks loaded written stash row_room place_room re
     zeros w = none_at {X = ℕ} _ w 0 0 refl
 
 -- this holds for these parts
-pub opened_from : {key : List ℕ} {kept : List (List ℕ)} {s : Shape} {words : List ℕ} {blocks : List (List ℕ)} {loaded written : List Bucket} {stash : List Entry} {row_room place_room recent_room orders stock : ℕ} {v_session : RecordState} {v_requests : RequestsState} {v_done_flags : List Bool} {v_acked_flags : List Bool} {v_rows : List Fetch} {v_row_count : ℕ} {v_recent : List ℕ} {v_places : List ℕ} {v_next_nonce : ℕ} {v_holdings : HoldingsState} {v_values : List (List ℕ)} {v_value_count : ℕ} {v_orders : List Order}
+pub opened_from : {key : List ℕ} {kept : List (List ℕ)} {rooms : List RoomState} {taken stock_list : List Bucket} {space : ℕ} {s : Shape} {words : List ℕ} {blocks : List (List ℕ)} {loaded written : List Bucket} {stash : List Entry} {row_room place_room recent_room orders stock : ℕ} {v_session : RecordState} {v_requests : RequestsState} {v_done_flags : List Bool} {v_acked_flags : List Bool} {v_rows : List Fetch} {v_row_count : ℕ} {v_recent : List ℕ} {v_places : List ℕ} {v_next_nonce : ℕ} {v_holdings : HoldingsState} {v_values : List (List ℕ)} {v_value_count : ℕ} {v_orders : List Order}
     → IsShape s → length words ≡ s.n → length blocks ≡ s.n → All (λ value. length value ≡ s.b) blocks → IsLoaded s (leaf_by (none_held s stash words)) blocks loaded stash
-    → AreEmptyBuckets (issue_len s) written → s.k * (s.l + 1) ≤ recent_room → HasTagsOf key s loaded kept
+    → AreEmptyBuckets (issue_len s) written → s.k * (s.l + 1) ≤ recent_room → HasTagsOf key s loaded kept → KeepsRooms s rooms 0 taken space stock_list
     → v_session ≡ opened s words blocks loaded → v_requests ≡ fresh s → v_done_flags ≡ replicate (session_limit s) false → v_acked_flags ≡ replicate (session_limit s) false → v_rows ≡ [] → v_row_count ≡ 0 → v_recent ≡ [] → v_places ≡ [] → v_next_nonce ≡ node_count s.l + 1 → v_holdings ≡ none_held s stash words → v_values ≡ [] → v_value_count ≡ 0 → v_orders ≡ []
-    → IsProcessor (record { shape = s; key = key; session = v_session; requests = v_requests; done_flags = v_done_flags; acked_flags = v_acked_flags; rows = v_rows; row_count = v_row_count; row_room = row_room; recent = v_recent; recent_room = recent_room; places = v_places; place_room = place_room; done_count = 0; issue_count = 0; ack_count = 0; next_nonce = v_next_nonce; tags = kept; holdings = v_holdings; written = written; values = v_values; value_count = v_value_count; orders = v_orders; order_count = orders; stock_count = stock; ready = false })
-opened_from {key} {kept} {s} {words} {blocks} {loaded} {written} {stash} {row_room} {place_room} {recent_room} {orders} {stock} {v_session} {v_requests} {v_done_flags} {v_acked_flags} {v_rows} {v_row_count} {v_recent} {v_places} {v_next_nonce} {v_holdings} {v_values} {v_value_count} {v_orders} shape word_count block_count values load empties wide has e_session e_requests e_done_flags e_acked_flags e_rows e_row_count e_recent e_places e_next_nonce e_holdings e_values e_value_count e_orders =
-    (subst (λ (z : List Order). IsProcessor (record { shape = s; key = key; session = v_session; requests = v_requests; done_flags = v_done_flags; acked_flags = v_acked_flags; rows = v_rows; row_count = v_row_count; row_room = row_room; recent = v_recent; recent_room = recent_room; places = v_places; place_room = place_room; done_count = 0; issue_count = 0; ack_count = 0; next_nonce = v_next_nonce; tags = kept; holdings = v_holdings; written = written; values = v_values; value_count = v_value_count; orders = z; order_count = orders; stock_count = stock; ready = false })) (sym e_orders)
-    (subst (λ (z : RecordState). IsProcessor (record { shape = s; key = key; session = z; requests = v_requests; done_flags = v_done_flags; acked_flags = v_acked_flags; rows = v_rows; row_count = v_row_count; row_room = row_room; recent = v_recent; recent_room = recent_room; places = v_places; place_room = place_room; done_count = 0; issue_count = 0; ack_count = 0; next_nonce = v_next_nonce; tags = kept; holdings = v_holdings; written = written; values = v_values; value_count = v_value_count; orders = []; order_count = orders; stock_count = stock; ready = false })) (sym e_session)
-    (subst (λ (z : RequestsState). IsProcessor (record { shape = s; key = key; session = opened s words blocks loaded; requests = z; done_flags = v_done_flags; acked_flags = v_acked_flags; rows = v_rows; row_count = v_row_count; row_room = row_room; recent = v_recent; recent_room = recent_room; places = v_places; place_room = place_room; done_count = 0; issue_count = 0; ack_count = 0; next_nonce = v_next_nonce; tags = kept; holdings = v_holdings; written = written; values = v_values; value_count = v_value_count; orders = []; order_count = orders; stock_count = stock; ready = false })) (sym e_requests)
-    (subst (λ (z : List Bool). IsProcessor (record { shape = s; key = key; session = opened s words blocks loaded; requests = fresh s; done_flags = z; acked_flags = v_acked_flags; rows = v_rows; row_count = v_row_count; row_room = row_room; recent = v_recent; recent_room = recent_room; places = v_places; place_room = place_room; done_count = 0; issue_count = 0; ack_count = 0; next_nonce = v_next_nonce; tags = kept; holdings = v_holdings; written = written; values = v_values; value_count = v_value_count; orders = []; order_count = orders; stock_count = stock; ready = false })) (sym e_done_flags)
-    (subst (λ (z : List Bool). IsProcessor (record { shape = s; key = key; session = opened s words blocks loaded; requests = fresh s; done_flags = replicate (session_limit s) false; acked_flags = z; rows = v_rows; row_count = v_row_count; row_room = row_room; recent = v_recent; recent_room = recent_room; places = v_places; place_room = place_room; done_count = 0; issue_count = 0; ack_count = 0; next_nonce = v_next_nonce; tags = kept; holdings = v_holdings; written = written; values = v_values; value_count = v_value_count; orders = []; order_count = orders; stock_count = stock; ready = false })) (sym e_acked_flags)
-    (subst (λ (z : List Fetch). IsProcessor (record { shape = s; key = key; session = opened s words blocks loaded; requests = fresh s; done_flags = replicate (session_limit s) false; acked_flags = replicate (session_limit s) false; rows = z; row_count = v_row_count; row_room = row_room; recent = v_recent; recent_room = recent_room; places = v_places; place_room = place_room; done_count = 0; issue_count = 0; ack_count = 0; next_nonce = v_next_nonce; tags = kept; holdings = v_holdings; written = written; values = v_values; value_count = v_value_count; orders = []; order_count = orders; stock_count = stock; ready = false })) (sym e_rows)
-    (subst (λ (z : ℕ). IsProcessor (record { shape = s; key = key; session = opened s words blocks loaded; requests = fresh s; done_flags = replicate (session_limit s) false; acked_flags = replicate (session_limit s) false; rows = []; row_count = z; row_room = row_room; recent = v_recent; recent_room = recent_room; places = v_places; place_room = place_room; done_count = 0; issue_count = 0; ack_count = 0; next_nonce = v_next_nonce; tags = kept; holdings = v_holdings; written = written; values = v_values; value_count = v_value_count; orders = []; order_count = orders; stock_count = stock; ready = false })) (sym e_row_count)
-    (subst (λ (z : List ℕ). IsProcessor (record { shape = s; key = key; session = opened s words blocks loaded; requests = fresh s; done_flags = replicate (session_limit s) false; acked_flags = replicate (session_limit s) false; rows = []; row_count = 0; row_room = row_room; recent = z; recent_room = recent_room; places = v_places; place_room = place_room; done_count = 0; issue_count = 0; ack_count = 0; next_nonce = v_next_nonce; tags = kept; holdings = v_holdings; written = written; values = v_values; value_count = v_value_count; orders = []; order_count = orders; stock_count = stock; ready = false })) (sym e_recent)
-    (subst (λ (z : List ℕ). IsProcessor (record { shape = s; key = key; session = opened s words blocks loaded; requests = fresh s; done_flags = replicate (session_limit s) false; acked_flags = replicate (session_limit s) false; rows = []; row_count = 0; row_room = row_room; recent = []; recent_room = recent_room; places = z; place_room = place_room; done_count = 0; issue_count = 0; ack_count = 0; next_nonce = v_next_nonce; tags = kept; holdings = v_holdings; written = written; values = v_values; value_count = v_value_count; orders = []; order_count = orders; stock_count = stock; ready = false })) (sym e_places)
-    (subst (λ (z : ℕ). IsProcessor (record { shape = s; key = key; session = opened s words blocks loaded; requests = fresh s; done_flags = replicate (session_limit s) false; acked_flags = replicate (session_limit s) false; rows = []; row_count = 0; row_room = row_room; recent = []; recent_room = recent_room; places = []; place_room = place_room; done_count = 0; issue_count = 0; ack_count = 0; next_nonce = z; tags = kept; holdings = v_holdings; written = written; values = v_values; value_count = v_value_count; orders = []; order_count = orders; stock_count = stock; ready = false })) (sym e_next_nonce)
-    (subst (λ (z : HoldingsState). IsProcessor (record { shape = s; key = key; session = opened s words blocks loaded; requests = fresh s; done_flags = replicate (session_limit s) false; acked_flags = replicate (session_limit s) false; rows = []; row_count = 0; row_room = row_room; recent = []; recent_room = recent_room; places = []; place_room = place_room; done_count = 0; issue_count = 0; ack_count = 0; next_nonce = node_count s.l + 1; tags = kept; holdings = z; written = written; values = v_values; value_count = v_value_count; orders = []; order_count = orders; stock_count = stock; ready = false })) (sym e_holdings)
-    (subst (λ (z : List (List ℕ)). IsProcessor (record { shape = s; key = key; session = opened s words blocks loaded; requests = fresh s; done_flags = replicate (session_limit s) false; acked_flags = replicate (session_limit s) false; rows = []; row_count = 0; row_room = row_room; recent = []; recent_room = recent_room; places = []; place_room = place_room; done_count = 0; issue_count = 0; ack_count = 0; next_nonce = node_count s.l + 1; tags = kept; holdings = none_held s stash words; written = written; values = z; value_count = v_value_count; orders = []; order_count = orders; stock_count = stock; ready = false })) (sym e_values)
-    (subst (λ (z : ℕ). IsProcessor (record { shape = s; key = key; session = opened s words blocks loaded; requests = fresh s; done_flags = replicate (session_limit s) false; acked_flags = replicate (session_limit s) false; rows = []; row_count = 0; row_room = row_room; recent = []; recent_room = recent_room; places = []; place_room = place_room; done_count = 0; issue_count = 0; ack_count = 0; next_nonce = node_count s.l + 1; tags = kept; holdings = none_held s stash words; written = written; values = []; value_count = z; orders = []; order_count = orders; stock_count = stock; ready = false })) (sym e_value_count)
-    (opened_keeps key kept s words blocks loaded written stash row_room place_room recent_room orders stock shape word_count block_count values load empties wide has))))))))))))))
+    → IsProcessor (record { shape = s; key = key; session = v_session; requests = v_requests; done_flags = v_done_flags; acked_flags = v_acked_flags; rows = v_rows; row_count = v_row_count; row_room = row_room; recent = v_recent; recent_room = recent_room; places = v_places; place_room = place_room; done_count = 0; issue_count = 0; ack_count = 0; next_nonce = v_next_nonce; tags = kept; holdings = v_holdings; written = written; values = v_values; value_count = v_value_count; orders = v_orders; order_count = orders; stock = stock_list; stock_count = stock; ready = false; rooms = rooms; looked = 0; taken = taken; taken_room = space })
+opened_from {key} {kept} {rooms} {taken} {stock_list} {space} {s} {words} {blocks} {loaded} {written} {stash} {row_room} {place_room} {recent_room} {orders} {stock} {v_session} {v_requests} {v_done_flags} {v_acked_flags} {v_rows} {v_row_count} {v_recent} {v_places} {v_next_nonce} {v_holdings} {v_values} {v_value_count} {v_orders} shape word_count block_count values load empties wide has rooms_are e_session e_requests e_done_flags e_acked_flags e_rows e_row_count e_recent e_places e_next_nonce e_holdings e_values e_value_count e_orders =
+    (subst (λ (z : List Order). IsProcessor (record { shape = s; key = key; session = v_session; requests = v_requests; done_flags = v_done_flags; acked_flags = v_acked_flags; rows = v_rows; row_count = v_row_count; row_room = row_room; recent = v_recent; recent_room = recent_room; places = v_places; place_room = place_room; done_count = 0; issue_count = 0; ack_count = 0; next_nonce = v_next_nonce; tags = kept; holdings = v_holdings; written = written; values = v_values; value_count = v_value_count; orders = z; order_count = orders; stock = stock_list; stock_count = stock; ready = false; rooms = rooms; looked = 0; taken = taken; taken_room = space })) (sym e_orders)
+    (subst (λ (z : RecordState). IsProcessor (record { shape = s; key = key; session = z; requests = v_requests; done_flags = v_done_flags; acked_flags = v_acked_flags; rows = v_rows; row_count = v_row_count; row_room = row_room; recent = v_recent; recent_room = recent_room; places = v_places; place_room = place_room; done_count = 0; issue_count = 0; ack_count = 0; next_nonce = v_next_nonce; tags = kept; holdings = v_holdings; written = written; values = v_values; value_count = v_value_count; orders = []; order_count = orders; stock = stock_list; stock_count = stock; ready = false; rooms = rooms; looked = 0; taken = taken; taken_room = space })) (sym e_session)
+    (subst (λ (z : RequestsState). IsProcessor (record { shape = s; key = key; session = opened s words blocks loaded; requests = z; done_flags = v_done_flags; acked_flags = v_acked_flags; rows = v_rows; row_count = v_row_count; row_room = row_room; recent = v_recent; recent_room = recent_room; places = v_places; place_room = place_room; done_count = 0; issue_count = 0; ack_count = 0; next_nonce = v_next_nonce; tags = kept; holdings = v_holdings; written = written; values = v_values; value_count = v_value_count; orders = []; order_count = orders; stock = stock_list; stock_count = stock; ready = false; rooms = rooms; looked = 0; taken = taken; taken_room = space })) (sym e_requests)
+    (subst (λ (z : List Bool). IsProcessor (record { shape = s; key = key; session = opened s words blocks loaded; requests = fresh s; done_flags = z; acked_flags = v_acked_flags; rows = v_rows; row_count = v_row_count; row_room = row_room; recent = v_recent; recent_room = recent_room; places = v_places; place_room = place_room; done_count = 0; issue_count = 0; ack_count = 0; next_nonce = v_next_nonce; tags = kept; holdings = v_holdings; written = written; values = v_values; value_count = v_value_count; orders = []; order_count = orders; stock = stock_list; stock_count = stock; ready = false; rooms = rooms; looked = 0; taken = taken; taken_room = space })) (sym e_done_flags)
+    (subst (λ (z : List Bool). IsProcessor (record { shape = s; key = key; session = opened s words blocks loaded; requests = fresh s; done_flags = replicate (session_limit s) false; acked_flags = z; rows = v_rows; row_count = v_row_count; row_room = row_room; recent = v_recent; recent_room = recent_room; places = v_places; place_room = place_room; done_count = 0; issue_count = 0; ack_count = 0; next_nonce = v_next_nonce; tags = kept; holdings = v_holdings; written = written; values = v_values; value_count = v_value_count; orders = []; order_count = orders; stock = stock_list; stock_count = stock; ready = false; rooms = rooms; looked = 0; taken = taken; taken_room = space })) (sym e_acked_flags)
+    (subst (λ (z : List Fetch). IsProcessor (record { shape = s; key = key; session = opened s words blocks loaded; requests = fresh s; done_flags = replicate (session_limit s) false; acked_flags = replicate (session_limit s) false; rows = z; row_count = v_row_count; row_room = row_room; recent = v_recent; recent_room = recent_room; places = v_places; place_room = place_room; done_count = 0; issue_count = 0; ack_count = 0; next_nonce = v_next_nonce; tags = kept; holdings = v_holdings; written = written; values = v_values; value_count = v_value_count; orders = []; order_count = orders; stock = stock_list; stock_count = stock; ready = false; rooms = rooms; looked = 0; taken = taken; taken_room = space })) (sym e_rows)
+    (subst (λ (z : ℕ). IsProcessor (record { shape = s; key = key; session = opened s words blocks loaded; requests = fresh s; done_flags = replicate (session_limit s) false; acked_flags = replicate (session_limit s) false; rows = []; row_count = z; row_room = row_room; recent = v_recent; recent_room = recent_room; places = v_places; place_room = place_room; done_count = 0; issue_count = 0; ack_count = 0; next_nonce = v_next_nonce; tags = kept; holdings = v_holdings; written = written; values = v_values; value_count = v_value_count; orders = []; order_count = orders; stock = stock_list; stock_count = stock; ready = false; rooms = rooms; looked = 0; taken = taken; taken_room = space })) (sym e_row_count)
+    (subst (λ (z : List ℕ). IsProcessor (record { shape = s; key = key; session = opened s words blocks loaded; requests = fresh s; done_flags = replicate (session_limit s) false; acked_flags = replicate (session_limit s) false; rows = []; row_count = 0; row_room = row_room; recent = z; recent_room = recent_room; places = v_places; place_room = place_room; done_count = 0; issue_count = 0; ack_count = 0; next_nonce = v_next_nonce; tags = kept; holdings = v_holdings; written = written; values = v_values; value_count = v_value_count; orders = []; order_count = orders; stock = stock_list; stock_count = stock; ready = false; rooms = rooms; looked = 0; taken = taken; taken_room = space })) (sym e_recent)
+    (subst (λ (z : List ℕ). IsProcessor (record { shape = s; key = key; session = opened s words blocks loaded; requests = fresh s; done_flags = replicate (session_limit s) false; acked_flags = replicate (session_limit s) false; rows = []; row_count = 0; row_room = row_room; recent = []; recent_room = recent_room; places = z; place_room = place_room; done_count = 0; issue_count = 0; ack_count = 0; next_nonce = v_next_nonce; tags = kept; holdings = v_holdings; written = written; values = v_values; value_count = v_value_count; orders = []; order_count = orders; stock = stock_list; stock_count = stock; ready = false; rooms = rooms; looked = 0; taken = taken; taken_room = space })) (sym e_places)
+    (subst (λ (z : ℕ). IsProcessor (record { shape = s; key = key; session = opened s words blocks loaded; requests = fresh s; done_flags = replicate (session_limit s) false; acked_flags = replicate (session_limit s) false; rows = []; row_count = 0; row_room = row_room; recent = []; recent_room = recent_room; places = []; place_room = place_room; done_count = 0; issue_count = 0; ack_count = 0; next_nonce = z; tags = kept; holdings = v_holdings; written = written; values = v_values; value_count = v_value_count; orders = []; order_count = orders; stock = stock_list; stock_count = stock; ready = false; rooms = rooms; looked = 0; taken = taken; taken_room = space })) (sym e_next_nonce)
+    (subst (λ (z : HoldingsState). IsProcessor (record { shape = s; key = key; session = opened s words blocks loaded; requests = fresh s; done_flags = replicate (session_limit s) false; acked_flags = replicate (session_limit s) false; rows = []; row_count = 0; row_room = row_room; recent = []; recent_room = recent_room; places = []; place_room = place_room; done_count = 0; issue_count = 0; ack_count = 0; next_nonce = node_count s.l + 1; tags = kept; holdings = z; written = written; values = v_values; value_count = v_value_count; orders = []; order_count = orders; stock = stock_list; stock_count = stock; ready = false; rooms = rooms; looked = 0; taken = taken; taken_room = space })) (sym e_holdings)
+    (subst (λ (z : List (List ℕ)). IsProcessor (record { shape = s; key = key; session = opened s words blocks loaded; requests = fresh s; done_flags = replicate (session_limit s) false; acked_flags = replicate (session_limit s) false; rows = []; row_count = 0; row_room = row_room; recent = []; recent_room = recent_room; places = []; place_room = place_room; done_count = 0; issue_count = 0; ack_count = 0; next_nonce = node_count s.l + 1; tags = kept; holdings = none_held s stash words; written = written; values = z; value_count = v_value_count; orders = []; order_count = orders; stock = stock_list; stock_count = stock; ready = false; rooms = rooms; looked = 0; taken = taken; taken_room = space })) (sym e_values)
+    (subst (λ (z : ℕ). IsProcessor (record { shape = s; key = key; session = opened s words blocks loaded; requests = fresh s; done_flags = replicate (session_limit s) false; acked_flags = replicate (session_limit s) false; rows = []; row_count = 0; row_room = row_room; recent = []; recent_room = recent_room; places = []; place_room = place_room; done_count = 0; issue_count = 0; ack_count = 0; next_nonce = node_count s.l + 1; tags = kept; holdings = none_held s stash words; written = written; values = []; value_count = z; orders = []; order_count = orders; stock = stock_list; stock_count = stock; ready = false; rooms = rooms; looked = 0; taken = taken; taken_room = space })) (sym e_value_count)
+    (opened_keeps key kept rooms taken stock_list space s words blocks loaded written stash row_room place_room recent_room orders stock shape word_count block_count values load empties wide has rooms_are))))))))))))))

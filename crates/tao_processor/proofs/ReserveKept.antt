@@ -13,11 +13,13 @@ use Rattle.tao_tables.proofs.PoolRoom.{room_grows, room_reserve}
 use Rattle.tao_record.specs.State.{RecordState, issue_len}
 use Rattle.tao_requests.specs.State.{RequestsState}
 use Rattle.tao_processor.specs.declared.fetches.Fetch.{Fetch}
+use Rattle.tao_base.specs.declared.storage.Bucket.{Bucket}
+use Rattle.tao_processor.specs.Rooms.{IsStockFor}
 use Rattle.tao_processor.specs.Topping.{pools_from}
 use Rattle.tao_processor.specs.Groups.{Parts, IsProcessor, pools_of}
 
 -- what topping up leaves unchanged
-pub record TopsUp (x : Parts) (session : RecordState) (q : RequestsState) (rows : List Fetch) (row_count : ℕ) (places : List ℕ) (values : List (List ℕ)) (orders : List Order) : Type 0 where
+pub record TopsUp (x : Parts) (session : RecordState) (q : RequestsState) (rows : List Fetch) (row_count : ℕ) (places : List ℕ) (values : List (List ℕ)) (orders : List Order) (stock : List Bucket) : Type 0 where
   pub history_stays : session.history ≡ x.session.history
   pub requests_stay : q ≡ record x.requests { spare = q.spare }
   pub rows_stay : rows ≡ x.rows
@@ -25,9 +27,10 @@ pub record TopsUp (x : Parts) (session : RecordState) (q : RequestsState) (rows 
   pub places_stay : places ≡ x.places
   pub each : All (λ value. length value ≡ x.shape.b) values
   pub order_rooms : All (IsOrderRoom x.shape (issue_len x.shape)) orders
+  pub stocked : All (IsStockFor x.shape) stock
 
-grown_core : (x : Parts) (ready : Bool) (numbers : RecordState) (spare row_room place_room value_count order_count stock_count : ℕ) (values : List (List ℕ)) (orders : List Order) → IsProcessor x
-    → All (λ value. length value ≡ x.shape.b) values → All (IsOrderRoom x.shape (issue_len x.shape)) orders
+grown_core : (x : Parts) (ready : Bool) (numbers : RecordState) (spare row_room place_room value_count order_count stock_count : ℕ) (values : List (List ℕ)) (orders : List Order) (stock : List Bucket) → IsProcessor x
+    → All (λ value. length value ≡ x.shape.b) values → All (IsOrderRoom x.shape (issue_len x.shape)) orders → All (IsStockFor x.shape) stock
     → HasPools x.shape ready (arrived (reverse x.session.history.events)) (dones (reverse x.session.history.events)) (issues (reverse x.session.history.events)) (acks (reverse x.session.history.events))
     (pools_from numbers spare row_room place_room value_count order_count stock_count)
     → IsProcessor (record x {
@@ -39,10 +42,11 @@ grown_core : (x : Parts) (ready : Bool) (numbers : RecordState) (spare row_room 
       value_count = value_count;
       orders = orders;
       order_count = order_count;
+      stock = stock;
       stock_count = stock_count;
       ready = ready;
     })
-grown_core x ready numbers spare row_room place_room value_count order_count stock_count values orders is each order_rooms pools = record {
+grown_core x ready numbers spare row_room place_room value_count order_count stock_count values orders stock is each order_rooms stocked pools = record {
   record_is = is.record_is;
   held_is = is.held_is;
   asked = record { shape = is.asked.shape; follows = is.asked.follows; served = is.asked.served };
@@ -53,13 +57,22 @@ grown_core x ready numbers spare row_room place_room value_count order_count sto
   pools = pools;
   blocks = each;
   order_rooms = order_rooms;
+  rooms_are = record {
+    enough = is.rooms_are.enough;
+    each = is.rooms_are.each;
+    within = is.rooms_are.within;
+    full = is.rooms_are.full;
+    empty = is.rooms_are.empty;
+    fits = is.rooms_are.fits;
+    stocked = stocked;
+  };
   recent_fits = is.recent_fits;
   written_fits = is.written_fits;
   written_empty = is.written_empty;
 }
 
-grown : (x : Parts) (ready : Bool) (session : RecordState) (q : RequestsState) (rows : List Fetch) (row_count row_room : ℕ) (places : List ℕ) (place_room : ℕ) (values : List (List ℕ)) (orders : List Order)
-    (value_count order_count stock_count : ℕ) → IsProcessor x → TopsUp x session q rows row_count places values orders
+grown : (x : Parts) (ready : Bool) (session : RecordState) (q : RequestsState) (rows : List Fetch) (row_count row_room : ℕ) (places : List ℕ) (place_room : ℕ) (values : List (List ℕ)) (orders : List Order) (stock : List Bucket)
+    (value_count order_count stock_count : ℕ) → IsProcessor x → TopsUp x session q rows row_count places values orders stock
     → HasPools x.shape ready (arrived (reverse x.session.history.events)) (dones (reverse x.session.history.events)) (issues (reverse x.session.history.events)) (acks (reverse x.session.history.events))
     (pools_from session q.spare row_room place_room value_count order_count stock_count)
     → IsProcessor (record x {
@@ -74,10 +87,11 @@ grown : (x : Parts) (ready : Bool) (session : RecordState) (q : RequestsState) (
       value_count = value_count;
       orders = orders;
       order_count = order_count;
+      stock = stock;
       stock_count = stock_count;
       ready = ready;
     })
-grown x ready session q rows row_count row_room places place_room values orders value_count order_count stock_count is tops pools =
+grown x ready session q rows row_count row_room places place_room values orders stock value_count order_count stock_count is tops pools =
     subst (λ (h : History). IsProcessor (record x {
       session = record session { history = h };
       requests = q;
@@ -90,6 +104,7 @@ grown x ready session q rows row_count row_room places place_room values orders 
       value_count = value_count;
       orders = orders;
       order_count = order_count;
+      stock = stock;
       stock_count = stock_count;
       ready = ready;
     })) (sym tops.history_stays)
@@ -105,6 +120,7 @@ grown x ready session q rows row_count row_room places place_room values orders 
       value_count = value_count;
       orders = orders;
       order_count = order_count;
+      stock = stock;
       stock_count = stock_count;
       ready = ready;
     })) (sym tops.requests_stay)
@@ -120,6 +136,7 @@ grown x ready session q rows row_count row_room places place_room values orders 
       value_count = value_count;
       orders = orders;
       order_count = order_count;
+      stock = stock;
       stock_count = stock_count;
       ready = ready;
     })) (sym tops.rows_stay)
@@ -134,6 +151,7 @@ grown x ready session q rows row_count row_room places place_room values orders 
       value_count = value_count;
       orders = orders;
       order_count = order_count;
+      stock = stock;
       stock_count = stock_count;
       ready = ready;
     })) (sym tops.count_stays)
@@ -147,14 +165,15 @@ grown x ready session q rows row_count row_room places place_room values orders 
       value_count = value_count;
       orders = orders;
       order_count = order_count;
+      stock = stock;
       stock_count = stock_count;
       ready = ready;
     })) (sym tops.places_stay)
-    (grown_core x ready session q.spare row_room place_room value_count order_count stock_count values orders is tops.each tops.order_rooms pools)))))
+    (grown_core x ready session q.spare row_room place_room value_count order_count stock_count values orders stock is tops.each tops.order_rooms tops.stocked pools)))))
 
 -- if memory ran out
-pub grown_keeps : {x : Parts} {session : RecordState} {q : RequestsState} {rows : List Fetch} {row_count row_room : ℕ} {places : List ℕ} {place_room : ℕ} {values : List (List ℕ)} {orders : List Order}
-    {value_count order_count stock_count : ℕ} → IsProcessor x → TopsUp x session q rows row_count places values orders
+pub grown_keeps : {x : Parts} {session : RecordState} {q : RequestsState} {rows : List Fetch} {row_count row_room : ℕ} {places : List ℕ} {place_room : ℕ} {values : List (List ℕ)} {orders : List Order} {stock : List Bucket}
+    {value_count order_count stock_count : ℕ} → IsProcessor x → TopsUp x session q rows row_count places values orders stock
     → KeepsPools (pools_of x) (pools_from session q.spare row_room place_room value_count order_count stock_count)
     → IsProcessor (record x {
       session = session;
@@ -168,16 +187,17 @@ pub grown_keeps : {x : Parts} {session : RecordState} {q : RequestsState} {rows 
       value_count = value_count;
       orders = orders;
       order_count = order_count;
+      stock = stock;
       stock_count = stock_count;
     })
-grown_keeps {x} {session} {q} {rows} {row_count} {row_room} {places} {place_room} {values} {orders} {value_count} {order_count} {stock_count} is tops keeps =
-    grown x x.ready session q rows row_count row_room places place_room values orders value_count order_count stock_count is tops
+grown_keeps {x} {session} {q} {rows} {row_count} {row_room} {places} {place_room} {values} {orders} {stock} {value_count} {order_count} {stock_count} is tops keeps =
+    grown x x.ready session q rows row_count row_room places place_room values orders stock value_count order_count stock_count is tops
     (room_grows x.shape x.ready (arrived (reverse x.session.history.events)) (dones (reverse x.session.history.events)) (issues (reverse x.session.history.events))
     (acks (reverse x.session.history.events)) (pools_of x) (pools_from session q.spare row_room place_room value_count order_count stock_count) keeps is.pools)
 
 -- if memory sufficed
-pub ready_keeps : {x : Parts} {session : RecordState} {q : RequestsState} {rows : List Fetch} {row_count row_room : ℕ} {places : List ℕ} {place_room : ℕ} {values : List (List ℕ)} {orders : List Order}
-    {value_count order_count stock_count : ℕ} {aim : Pools} → IsProcessor x → TopsUp x session q rows row_count places values orders
+pub ready_keeps : {x : Parts} {session : RecordState} {q : RequestsState} {rows : List Fetch} {row_count row_room : ℕ} {places : List ℕ} {place_room : ℕ} {values : List (List ℕ)} {orders : List Order} {stock : List Bucket}
+    {value_count order_count stock_count : ℕ} {aim : Pools} → IsProcessor x → TopsUp x session q rows row_count places values orders stock
     → aim ≡ wanted x.shape x.row_count x.done_count x.issue_count x.ack_count → KeepsPools aim (pools_from session q.spare row_room place_room value_count order_count stock_count)
     → IsProcessor (record x {
       session = session;
@@ -191,11 +211,12 @@ pub ready_keeps : {x : Parts} {session : RecordState} {q : RequestsState} {rows 
       value_count = value_count;
       orders = orders;
       order_count = order_count;
+      stock = stock;
       stock_count = stock_count;
       ready = true;
     })
-ready_keeps {x} {session} {q} {rows} {row_count} {row_room} {places} {place_room} {values} {orders} {value_count} {order_count} {stock_count} {aim} is tops aims keeps =
-    grown x true session q rows row_count row_room places place_room values orders value_count order_count stock_count is tops
+ready_keeps {x} {session} {q} {rows} {row_count} {row_room} {places} {place_room} {values} {orders} {stock} {value_count} {order_count} {stock_count} {aim} is tops aims keeps =
+    grown x true session q rows row_count row_room places place_room values orders stock value_count order_count stock_count is tops
     (subst (λ a. HasPools x.shape true a (dones es) (issues es) (acks es) new) is.fetched.counts
     (subst (λ d. HasPools x.shape true x.row_count d (issues es) (acks es) new) is.writes.dones
     (subst (λ m. HasPools x.shape true x.row_count x.done_count m (acks es) new) is.writes.issues

@@ -20,10 +20,12 @@ use Rattle.tao_holdings.specs.Holding.{HoldingsState, is_held, contents_in, coun
 use Rattle.tao_base.specs.declared.storage.Bucket.{Bucket}
 use Rattle.tao_base.specs.declared.storage.Order.{Order}
 use Rattle.tao_bucket.specs.Encoding.{tag_of}
+use Rattle.tao_bucket.specs.Rooms.{RoomState}
 use Rattle.tao_images.specs.Honesty.{HasTagOf}
 use Rattle.tao_images.specs.Orders.{IsOrderRoom}
 use Rattle.tao_model.specs.Residence.{Unaltered}
 use Rattle.tao_tables.specs.Tags.{TellsTags}
+use Rattle.tao_processor.specs.Rooms.{KeepsRooms}
 use Rattle.tao_processor.specs.Steps.{IsEmpty}
 use Rattle.tao_processor.specs.Tags.{has_tag, tag_at, HasPlaces}
 use Rattle.tao_processor.specs.declared.fetches.Fetch.{Fetch}
@@ -54,8 +56,13 @@ pub record Parts : Type 0 where
   pub value_count : ℕ
   pub orders : List Order
   pub order_count : ℕ
+  pub stock : List Bucket
   pub stock_count : ℕ
   pub ready : Bool
+  pub rooms : List RoomState
+  pub looked : ℕ
+  pub taken : List Bucket
+  pub taken_room : ℕ
 
 -- the record is one that a proxy makes
 pub record KeepsRecord (p : Shape) (h : History) : Type 0 where
@@ -123,6 +130,7 @@ pub record IsProcessor (x : Parts) : Type 0 where
       (acks (reverse x.session.history.events)) (pools_of x)
   pub blocks : All (λ value. length value ≡ x.shape.b) x.values
   pub order_rooms : All (IsOrderRoom x.shape (issue_len x.shape)) x.orders
+  pub rooms_are : KeepsRooms x.shape x.rooms x.looked x.taken x.taken_room x.stock
   pub recent_fits : x.shape.k * (x.shape.l + 1) ≤ x.recent_room
   pub written_fits : issue_len x.shape ≤ length x.written
   pub written_empty : All IsEmpty x.written

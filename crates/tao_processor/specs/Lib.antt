@@ -1,5 +1,6 @@
 pub mod Groups
 pub mod Readers
+pub mod Rooms
 pub mod State
 pub mod Steps
 pub mod Tags

@@ -1,5 +1,5 @@
 -- What contracts see of the processor, and what is known of it after each event.
-use Rattle.std.specs.Prelude.{◌≡◌, ℕ, ◌+◌, ◌<◌, Bool, false, List, [], ◌∷◌, ◌++◌, reverse}
+use Rattle.std.specs.Prelude.{◌≡◌, ℕ, ◌+◌, ◌<◌, Bool, false, List, [], ◌∷◌, ◌++◌, reverse, Option}
 use Rattle.tao_base.specs.declared.session.Event.{Event}
 use Rattle.tao_base.specs.declared.session.Event.TheVariants.{Issue}
 use Rattle.tao_model.specs.Events.{issues}
@@ -8,7 +8,9 @@ use Rattle.tao_base.specs.Limits.{Shape}
 use Rattle.tao_base.specs.Session.{History}
 use Rattle.tao_base.specs.Links.{FitsLinks}
 use Rattle.tao_base.specs.declared.storage.Order.{Order}
-use Rattle.tao_images.specs.Answers.{AreFetched}
+use Rattle.tao_images.specs.Answers.{AreFetched, kept_tag}
+use Rattle.tao_images.specs.Paths.{path_refusal, buckets_read}
+use Rattle.tao_images.specs.declared.nodes.Refused.{Refused}
 use Rattle.tao_images.specs.Honesty.{HasTagOf}
 use Rattle.tao_images.specs.Orders.{IsOrderOf}
 use Rattle.tao_model.specs.Requests.{position}
@@ -41,6 +43,16 @@ pub record IsProcessorSound (c : ProcessorState) : Type 0 where
   pub tags : Unaltered (HasTagOf c.key c.history.opening.shape) c.history.opening (reverse c.history.events)
   pub shape : c.holdings.shape ≡ c.history.opening.shape
   pub forms : AreForms c.holdings
+
+-- what an answer to a fetch of the path to a leaf is refused for, first
+abbrev pub look_refusal : ProcessorState → ℕ → List ℕ → Option Refused
+look_refusal c leaf image =
+    path_refusal c.key c.history.opening.shape (is_resident c.history.opening (reverse c.history.events)) (newest_version (reverse c.history.events))
+    (kept_tag c.key c.history.opening (reverse c.history.events)) leaf image
+
+-- the buckets that are read from one that isn't refused: those of the nodes that the proxy doesn't hold
+abbrev pub buckets_looked : ProcessorState → ℕ → List ℕ → List Bucket
+buckets_looked c leaf image = buckets_read c.key c.history.opening.shape (is_resident c.history.opening (reverse c.history.events)) leaf image
 
 -- the buckets that were looked at last were read from an answer to this arrival's fetch
 abbrev pub IsLookedAt : ProcessorState → ℕ → Type 0

@@ -4,8 +4,10 @@
 mod fetches;
 mod finishing;
 mod forgetting;
+mod looking;
 mod opening;
 mod processor;
+mod rooms;
 mod tags;
 mod topping;
 mod writing;

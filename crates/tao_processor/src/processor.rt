@@ -1,4 +1,6 @@
 //! The processor: the proxy's tables, and the events that change them.
+mod looking;
+
 ghost use Rattle.std.specs.Prelude.{◌≡◌, ℕ, ◌+◌, ◌*◌, ◌<◌, ◌≤◌, [], ◌∷◌, true, false, IfOk, OnOk, OnErr, length, reverse, vec_len, All};
 ghost use Rattle.tao_base.specs.declared.session.Event.TheVariants.{Arrive, Done, Issue, Acked, Fault};
 ghost use Rattle.tao_model.specs.Events.{has_fault, arrived, dones, issues};
@@ -10,13 +12,15 @@ mod readers;
 use crate::fetches::{Fetch, leaf_now};
 use crate::finishing::finish;
 use crate::forgetting::{forget_all, issued};
-use crate::opening::{empty_buckets, most_written};
+use crate::opening::empty_buckets;
+use crate::rooms::{path_rooms, take_looked};
 use crate::tags::{keep_tags, load_tags};
 use crate::topping::{take_order, top_up, wanted_now};
 use crate::writing::write_back;
 use std::alloc::Global;
 use std::marker::Model;
 use tao_base::{Block, Blocks, Bucket, Cause, NoMemory, Numbers, Op, Order, Params};
+use tao_bucket::Room;
 use tao_holdings::Holdings;
 use tao_record::Record;
 use tao_requests::Requests;
@@ -47,7 +51,10 @@ pub struct Processor {
     orders: Vec<Order>,
     stock: Vec<Bucket>,
     ready: bool,
-    looked: Vec<Bucket>,
+    rooms: Vec<Room>,
+    looked: usize,
+    // the buckets of a Done on their way to the holdings, else empty
+    taken: Vec<Bucket>,
 }
 
 impl Model for Processor {
@@ -57,8 +64,9 @@ impl Model for Processor {
 
     ghost use Rattle.std.specs.Prelude.{vec_len, vec_capacity};
     ghost use Rattle.tao_processor.specs.Groups.{IsProcessor};
+    ghost use Rattle.tao_processor.specs.Rooms.{buckets_held};
 
-    ghost view = { λ r. record { key = r.key; history = r.session.history; holdings = r.holdings; ready = r.ready; looked = r.looked.items } };
+    ghost view = { λ r. record { key = r.key; history = r.session.history; holdings = r.holdings; ready = r.ready; looked = buckets_held r.looked r.rooms.items } };
 
     ghost invariant = { λ r. IsProcessor (record {
       shape = r.p;
@@ -85,8 +93,13 @@ impl Model for Processor {
       value_count = vec_len r.values;
       orders = r.orders.items;
       order_count = vec_len r.orders;
+      stock = r.stock.items;
       stock_count = vec_len r.stock;
       ready = r.ready;
+      rooms = r.rooms.items;
+      looked = r.looked;
+      taken = r.taken.items;
+      taken_room = vec_capacity r.taken;
     }) };
 }
 
@@ -106,14 +119,17 @@ impl Processor {
         requires values { All (λ value. length value ≡ p.now.b) blocks }
         ensures opened { IfOk result (λ c. IsOpened key p.now words blocks c) }
     {
+        let touched = p.k() as usize * (p.l() as usize + 1);
         let (loaded, holdings) = Holdings::load(alloc, p, words.as_slice(), blocks.as_slice())?;
         let tags = load_tags(alloc, p, &key, loaded.as_slice())?;
         let session = Record::begin(alloc, p, words, blocks, loaded)?;
         let requests = Requests::new(alloc, p)?;
         let sequence = Sequence::new(alloc, p)?;
         let acknowledged = Sequence::new(alloc, p)?;
-        let recent = Vec::with_capacity(alloc, p.k() as usize * (p.l() as usize + 1))?;
+        let recent = Vec::with_capacity(alloc, touched)?;
         let written = empty_buckets(alloc, p)?;
+        let rooms = path_rooms(alloc, p)?;
+        let taken = Vec::with_capacity(alloc, p.l() as usize + 1)?;
         Ok(Processor {
             alloc,
             p: *p,
@@ -136,7 +152,9 @@ impl Processor {
             orders: Vec::new(alloc),
             stock: Vec::new(alloc),
             ready: false,
-            looked: Vec::new(alloc),
+            rooms,
+            looked: 0,
+            taken,
         })
     }
 
@@ -198,8 +216,15 @@ impl Processor {
     {
         let Fetch { leaf, word } = self.fetches[arrival as usize];
         self.holdings.forms();
-        self.session.add_done(arrival, &self.looked);
-        self.holdings.take_in(leaf, &mut self.looked);
+        take_looked(
+            &mut self.rooms,
+            self.looked,
+            &mut self.stock,
+            &mut self.taken,
+        );
+        self.looked = 0;
+        self.session.add_done(arrival, &self.taken);
+        self.holdings.take_in(leaf, &mut self.taken);
         finish(
             &mut self.holdings,
             &mut self.requests,

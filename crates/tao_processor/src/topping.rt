@@ -4,12 +4,14 @@ ghost use Rattle.tao_base.specs.Limits.{Shape};
 ghost use Rattle.tao_images.specs.Orders.{IsOrderRoom};
 ghost use Rattle.tao_record.specs.State.{issue_len};
 ghost use Rattle.tao_tables.specs.Pools.{KeepsPools, wanted};
+ghost use Rattle.tao_processor.specs.Rooms.{IsStockFor};
 ghost use Rattle.tao_processor.specs.Topping.{pools_from, pools_in};
 
 use crate::fetches::Fetch;
 use crate::opening::most_written;
 use std::alloc::Global;
-use tao_base::{Block, Bucket, Entries, NoMemory, Order, Params};
+use tao_base::{Block, Bucket, NoMemory, Order, Params};
+use tao_bucket::stocked;
 use tao_images::order_room;
 use tao_record::Record;
 use tao_requests::Requests;
@@ -66,19 +68,17 @@ pub(crate) fn take_order(orders: &mut Vec<Order>) -> Order
 /// Fills up the buckets of the stock to at least this many.
 pub(crate) fn fill_stock(
     alloc: Global,
+    p: &Params,
     stock: &mut Vec<Bucket>,
     count: usize,
 ) -> Result<(), NoMemory>
+    requires each { All (IsStockFor p.now) stock.old.items }
+    ensures each { All (IsStockFor p.now) stock.new.items }
     ensures kept { vec_len stock.old ≤ vec_len stock.new }
     ensures ok { OnOk result (count ≤ vec_len stock.new) }
 {
     while stock.len() < count {
-        stock.push(Bucket {
-            node: 0,
-            version: 0,
-            nonce: 0,
-            entries: Entries::new(alloc)?,
-        })?;
+        stock.push(stocked(alloc, p)?)?;
     }
     Ok(())
 }
@@ -146,6 +146,7 @@ pub(crate) fn top_up(
 ) -> Result<(), NoMemory>
     requires each { All (λ value. length value ≡ p.now.b) values.old.items }
     requires order_rooms { All (IsOrderRoom p.now (issue_len p.now)) orders.old.items }
+    requires stocked { All (IsStockFor p.now) stock.old.items }
     ensures history { session.new.history ≡ session.old.history }
     ensures requests { requests.new ≡ record requests.old { spare = requests.new.spare } }
     ensures rows { fetches.new.items ≡ fetches.old.items }
@@ -153,6 +154,7 @@ pub(crate) fn top_up(
     ensures places { places.new.items ≡ places.old.items }
     ensures each { All (λ value. length value ≡ p.now.b) values.new.items }
     ensures order_rooms { All (IsOrderRoom p.now (issue_len p.now)) orders.new.items }
+    ensures stocked { All (IsStockFor p.now) stock.new.items }
     ensures grown { KeepsPools (pools_from session.old requests.old.spare (vec_capacity fetches.old) (vec_capacity places.old) (vec_len values.old) (vec_len orders.old) (vec_len stock.old))
         (pools_from session.new requests.new.spare (vec_capacity fetches.new) (vec_capacity places.new) (vec_len values.new) (vec_len orders.new) (vec_len stock.new)) }
     ensures ok { OnOk result (KeepsPools (pools_in wanted.now) (pools_from session.new requests.new.spare (vec_capacity fetches.new) (vec_capacity places.new) (vec_len values.new) (vec_len orders.new) (vec_len stock.new))) }
@@ -163,6 +165,6 @@ pub(crate) fn top_up(
     widen(places, wanted.places)?;
     fill_values(alloc, p.b() as usize, values, wanted.values)?;
     fill_orders(alloc, p, orders, wanted.orders)?;
-    fill_stock(alloc, stock, wanted.stock)?;
+    fill_stock(alloc, p, stock, wanted.stock)?;
     Ok(())
 }

@@ -1,8 +1,10 @@
-use Rattle.std.proofs.Common.{◌-◌, ◌≤◌, vec_len}
+use Rattle.std.proofs.Common.{◌-◌, ◌≤◌, vec_len, All}
+use Rattle.tao_processor.specs.Rooms.{IsStockFor}
 use Rattle.tao_processor.proofs.topping.fill_stock.Given as goal
 
 abbrev pub invariant-loop-alloc : goal.invariant-loop-alloc
 invariant-loop-alloc l = record {
+  each : All (IsStockFor l.p) l.stock.items;
   kept : vec_len l.fn.stock ≤ vec_len l.stock;
 }
 

@@ -11,6 +11,7 @@ use Rattle.tao_holdings.specs.Holding.{HoldingsState, is_held, version_in, conte
 use Rattle.tao_processor.specs.State.{ProcessorState}
 use Rattle.tao_processor.specs.Steps.{IsNodeOf, IsEmpty, written_of}
 use Rattle.tao_bucket.specs.Encoding.{format_of}
+use Rattle.tao_processor.specs.Rooms.{buckets_held}
 use Rattle.tao_processor.specs.Tags.{KeepsTagsOf}
 use Rattle.tao_processor.proofs.IssueKept.{issue_ready, issue_keeps, sent_well, issues_so}
 use Rattle.tao_processor.proofs.OrdersSent.{room_for_fewer}
@@ -156,6 +157,6 @@ returns c =
     let ready = (issue_ready c.self.invariant (ap (λ (st : ProcessorState). st.history) c.self.view_is) c.requires.due) in
     let well = sent_well c.self.invariant ready c.deref.ensures.value c.write_back.ensures.order c.write_back.ensures.in_form in
     record {
-      issued = issues_so _ c.self.inside.looked.items (c.self.inside.issues + 1) c.write_back.new.order c.write_back.new.session c.set_versions.new.self c.args.self.now c.self.invariant refl c.self.view_is
+      issued = issues_so _ (buckets_held c.self.inside.looked c.self.inside.rooms.items) (c.self.inside.issues + 1) c.write_back.new.order c.write_back.new.session c.set_versions.new.self c.args.self.now c.self.invariant refl c.self.view_is
           (c.write_back.ensures.recorded ∙ ap (λ (ns : List ℕ). record (added c.self.inside.session (Issue (c.self.inside.issues + 1) c.self.inside.nonce (written_of (contents_in c.self.inside.holdings) ns (c.self.inside.issues + 1) c.self.inside.nonce))) { issues = c.self.inside.session.issues - 1 }) c.deref.ensures.value) well;
     }

@@ -13,6 +13,7 @@ pub top_up-requires : goal.top_up-requires
 top_up-requires c = record {
   each = c.self.invariant.blocks;
   order_rooms = c.self.invariant.order_rooms;
+  stocked = c.self.invariant.rooms_are.stocked;
 }
 
 pub invariant_of-self : goal.invariant_of-self
@@ -26,6 +27,7 @@ invariant_of-self c =
       places_stay = c.in-Ok.ensures.places;
       each = c.in-Ok.ensures.each;
       order_rooms = c.in-Ok.ensures.order_rooms;
+      stocked = c.in-Ok.ensures.stocked;
     })
     (c.wanted_now-wanted.ensures ∙ ap (λ n. wanted c.self.inside.p n c.self.inside.dones c.self.inside.issues c.self.inside.acks) c.len.ensures) c.in-Ok.ensures.ok
 
@@ -40,4 +42,5 @@ invariant_of-self-in-Err c =
       places_stay = c.in-Err.ensures.places;
       each = c.in-Err.ensures.each;
       order_rooms = c.in-Err.ensures.order_rooms;
+      stocked = c.in-Err.ensures.stocked;
     }) c.in-Err.ensures.grown
