@@ -1,5 +1,5 @@
 -- Answers that were read, and the rooms that hold their buckets.
-use Rattle.std.proofs.Common.{◌≡◌, ℕ, ◌+◌, ◌<◌, ◌≤◌, ◌^◌, Bool, true, false, eqb, List, [], ◌∷◌, length, take, map, reverse, All, Option, Some, None, is_some, refl, sym, ap, ap₂, ◌∙◌, subst, arith, get_or, set, drop, ◌++◌}
+use Rattle.std.proofs.Common.{◌≡◌, ℕ, ◌+◌, ◌<◌, ◌≤◌, ◌^◌, Bool, ◌||◌, List, [], ◌∷◌, length, take, map, reverse, All, Option, Some, None, is_some, Result, Ok, Err, refl, sym, ap, ap₂, ◌∙◌, subst, arith, get_or, set, drop, ◌++◌}
 use Rattle.std.specs.List.{filter_map, cons_option, slice_index_or}
 use Rattle.std.proofs.lemmas.Bool.{eq-eqb}
 use Rattle.std.proofs.lemmas.List.{get_or_default, take_more, get_or-set_other}
@@ -11,14 +11,15 @@ use Rattle.tao_base.specs.declared.session.Event.{Event}
 use Rattle.tao_base.specs.declared.storage.Bucket.{Bucket}
 use Rattle.tao_bucket.specs.Encoding.{format_of}
 use Rattle.tao_bucket.specs.Rooms.{RoomState, emptied}
-use Rattle.tao_images.specs.Answers.{kept_tag, is_met}
+use Rattle.tao_images.specs.Answers.{kept_tag, is_met, is_passed, leaf_refusal, buckets_scanned}
 use Rattle.tao_images.specs.Paths.{path_refusal, buckets_read, IsKnownAlike, IsRoom, held_in}
 use Rattle.tao_images.proofs.KnownLemmas.{same_known}
 use Rattle.tao_holdings.specs.Holding.{is_held, version_in}
 use Rattle.tao_model.specs.Residence.{is_resident, newest_version}
 use Rattle.tao_processor.specs.Groups.{Parts, IsProcessor}
 use Rattle.tao_processor.specs.Rooms.{IsFull, IsStockFor, buckets_held, KeepsRooms}
-use Rattle.tao_processor.specs.Tags.{tag_at}
+use Rattle.tao_processor.specs.State.{ProcessorState, look_refusal, buckets_looked}
+use Rattle.std.specs.Result.{result_err, IsErrAnd}
 use Rattle.tao_processor.proofs.TagsKept.{tagged_later}
 
 -- ---- what is known of the nodes
@@ -57,6 +58,50 @@ read_alike x leaf image no_tag skipped skipped' is small skips = record { refusa
     both : (path_refusal x.key o.shape skipped (λ w. version_in x.holdings w) (λ w. slice_index_or x.tags w no_tag) leaf image ≡ path_refusal x.key o.shape skipped' (newest_version es) (kept_tag x.key o es) leaf image)
         × (buckets_read x.key o.shape skipped leaf image ≡ buckets_read x.key o.shape skipped' leaf image)
     both = same_known x.key o.shape skipped skipped' (λ w. version_in x.holdings w) (newest_version es) (λ w. slice_index_or x.tags w no_tag) (kept_tag x.key o es) leaf image small alike
+
+-- what contracts see of a processor with these buckets in its rooms
+abbrev pub view_of : Parts → List Bucket → ProcessorState
+view_of x looked = record { key = x.key; history = x.session.history; holdings = x.holdings; ready = x.ready; looked = looked }
+
+-- an answer to a fetch is refused and read as the record tells
+pub look_so : {x : Parts} {c : ProcessorState} {looked : List Bucket} {kept : List (List ℕ)} (leaf : ℕ) (image no_tag : List ℕ) → IsProcessor x → view_of x looked ≡ c → kept ≡ x.tags
+    → leaf < 2 ^ c.history.opening.shape.l
+    → (path_refusal x.key x.shape (λ w. is_held x.holdings w) (λ w. version_in x.holdings w) (λ w. slice_index_or kept w no_tag) leaf image ≡ look_refusal c leaf image)
+    × (buckets_read x.key x.shape (λ w. is_held x.holdings w) leaf image ≡ buckets_looked c leaf image)
+look_so {x} {c} {looked} {kept} leaf image no_tag is same tags_are small =
+    let o = x.session.history.opening in
+    let skipped : ℕ → Bool = λ w. is_held x.holdings w in
+    let low = subst (λ (st : ProcessorState). leaf < 2 ^ st.history.opening.shape.l) (sym same) small in
+    let alike = read_alike x leaf image no_tag skipped (is_resident o (reverse x.session.history.events)) is low (λ w held. held) in (
+      ap₂ (λ (s : Shape) (ts : List (List ℕ)). path_refusal x.key s skipped (λ w. version_in x.holdings w) (λ w. slice_index_or ts w no_tag) leaf image) (sym is.record_is.shape) tags_are
+      ∙ alike.refusal ∙ ap (λ (st : ProcessorState). look_refusal st leaf image) same,
+      ap (λ (s : Shape). buckets_read x.key s skipped leaf image) (sym is.record_is.shape) ∙ alike.buckets ∙ ap (λ (st : ProcessorState). buckets_looked st leaf image) same,
+    )
+
+-- so is one to the closing scan
+pub look_new_so : {x : Parts} {c : ProcessorState} {looked : List Bucket} {kept : List (List ℕ)} (leaf : ℕ) (image no_tag : List ℕ) → IsProcessor x → view_of x looked ≡ c → kept ≡ x.tags
+    → leaf < 2 ^ c.history.opening.shape.l
+    → (path_refusal x.key x.shape (λ w. is_held x.holdings w || is_met x.shape.l leaf w) (λ w. version_in x.holdings w) (λ w. slice_index_or kept w no_tag) leaf image ≡ leaf_refusal c.key c.history leaf image)
+    × (buckets_read x.key x.shape (λ w. is_held x.holdings w || is_met x.shape.l leaf w) leaf image ≡ buckets_scanned c.key c.history leaf image)
+look_new_so {x} {c} {looked} {kept} leaf image no_tag is same tags_are small =
+    let o = x.session.history.opening in
+    let skipped : ℕ → Bool = λ w. is_held x.holdings w || is_met o.shape.l leaf w in
+    let low = subst (λ (st : ProcessorState). leaf < 2 ^ st.history.opening.shape.l) (sym same) small in
+    let alike = read_alike x leaf image no_tag skipped (is_passed o (reverse x.session.history.events) leaf) is low (λ w held. ap (λ t. t || is_met o.shape.l leaf w) held) in (
+      ap₂ (λ (s : Shape) (ts : List (List ℕ)). path_refusal x.key s (λ w. is_held x.holdings w || is_met s.l leaf w) (λ w. version_in x.holdings w) (λ w. slice_index_or ts w no_tag) leaf image)
+      (sym is.record_is.shape) tags_are
+      ∙ alike.refusal ∙ ap (λ (st : ProcessorState). leaf_refusal st.key st.history leaf image) same,
+      ap (λ (s : Shape). buckets_read x.key s (λ w. is_held x.holdings w || is_met s.l leaf w) leaf image) (sym is.record_is.shape)
+      ∙ alike.buckets ∙ ap (λ (st : ProcessorState). buckets_scanned st.key st.history leaf image) same,
+    )
+
+-- what contracts see once the rooms hold other buckets
+pub looked_so : {x : Parts} {c : ProcessorState} {looked now buckets : List Bucket} → IsProcessor x → view_of x looked ≡ c → now ≡ buckets → view_of x now ≡ record c { looked = buckets }
+looked_so {x} {c} {looked} {now} {buckets} is same here = ap (view_of x) here ∙ ap (λ (st : ProcessorState). record st { looked = buckets }) same
+
+pub err_of : {X E : Type 0} (result : Result X E) (e : E) → IsErrAnd result (λ x. x ≡ e) → result_err result ≡ Some e
+err_of (Ok x) e is = absurd is
+err_of (Err x) e is = ap (λ y. Some y) is
 
 -- ---- what the rooms hold
 
