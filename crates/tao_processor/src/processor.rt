@@ -12,8 +12,8 @@ mod readers;
 use crate::fetches::{Fetch, leaf_now};
 use crate::finishing::finish;
 use crate::forgetting::{forget_all, issued};
-use crate::opening::empty_buckets;
-use crate::rooms::{path_rooms, take_looked};
+use crate::opening::{Fresh, Lists, fresh_parts};
+use crate::rooms::take_looked;
 use crate::tags::{keep_tags, load_tags};
 use crate::topping::{take_order, top_up, wanted_now};
 use crate::writing::write_back;
@@ -119,17 +119,23 @@ impl Processor {
         requires values { All (λ value. length value ≡ p.now.b) blocks }
         ensures opened { IfOk result (λ c. IsOpened key p.now words blocks c) }
     {
-        let touched = p.k() as usize * (p.l() as usize + 1);
+        // for the proof: the parameters are in range
+        let _ = p.k();
         let (loaded, holdings) = Holdings::load(alloc, p, words.as_slice(), blocks.as_slice())?;
         let tags = load_tags(alloc, p, &key, loaded.as_slice())?;
         let session = Record::begin(alloc, p, words, blocks, loaded)?;
-        let requests = Requests::new(alloc, p)?;
-        let sequence = Sequence::new(alloc, p)?;
-        let acknowledged = Sequence::new(alloc, p)?;
-        let recent = Vec::with_capacity(alloc, touched)?;
-        let written = empty_buckets(alloc, p)?;
-        let rooms = path_rooms(alloc, p)?;
-        let taken = Vec::with_capacity(alloc, p.l() as usize + 1)?;
+        let Fresh {
+            requests,
+            sequence,
+            acknowledged,
+            lists,
+        } = fresh_parts(alloc, p)?;
+        let Lists {
+            recent,
+            written,
+            rooms,
+            taken,
+        } = lists;
         Ok(Processor {
             alloc,
             p: *p,
