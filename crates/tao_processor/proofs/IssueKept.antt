@@ -191,10 +191,10 @@ sent_well {x} {version} {nodes} {order} is ready same sent forms = record {
   rising = subst (λ (ns : List ℕ). IsStrictlyIncreasing ns) (sym named) ready.rising;
   places = λ two. subst (λ (ns : List ℕ). All (λ node. node < length x.tags) ns) (sym named) (ready.tag_places order.version (ap (λ (s : Shape). format_of s.form order.version) is.record_is.shape ∙ two));
   fits = fits x.key x.shape version x.next_nonce buckets order shape sends in_form (
-    let few = subst (λ (s : Shape). length x.recent ≤ issue_len s) is.record_is.shape ready.few in
-    let long = written_len (contents_in x.holdings) x.recent version x.next_nonce in
-    omega (arith, few, long)
-  );
+      let few = subst (λ (s : Shape). length x.recent ≤ issue_len s) is.record_is.shape ready.few in
+      let long = written_len (contents_in x.holdings) x.recent version x.next_nonce in
+      omega (arith, few, long)
+      );
 }
   where
     buckets : List Bucket

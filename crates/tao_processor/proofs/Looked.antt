@@ -5,7 +5,7 @@ use Rattle.std.proofs.lemmas.Bool.{eq-eqb}
 use Rattle.std.proofs.lemmas.List.{get_or_default, take_more, get_or-set_other}
 use Rattle.std.proofs.lemmas.List.Elements.{All-nil, All-cons, filter_map-append}
 use Rattle.tao_base.specs.Limits.{Shape}
-use Rattle.tao_base.specs.Session.{Opening, History}
+use Rattle.tao_base.specs.Session.{Opening}
 use Rattle.tao_base.specs.Tree.{node_count}
 use Rattle.tao_base.specs.declared.session.Event.{Event}
 use Rattle.tao_base.specs.declared.storage.Bucket.{Bucket}
@@ -74,7 +74,7 @@ look_so {x} {c} {looked} {kept} leaf image no_tag is same tags_are small =
     let low = subst (λ (st : ProcessorState). leaf < 2 ^ st.history.opening.shape.l) (sym same) small in
     let alike = read_alike x leaf image no_tag skipped (is_resident o (reverse x.session.history.events)) is low (λ w held. held) in (
       ap₂ (λ (s : Shape) (ts : List (List ℕ)). path_refusal x.key s skipped (λ w. version_in x.holdings w) (λ w. slice_index_or ts w no_tag) leaf image) (sym is.record_is.shape) tags_are
-      ∙ alike.refusal ∙ ap (λ (st : ProcessorState). look_refusal st leaf image) same,
+          ∙ alike.refusal ∙ ap (λ (st : ProcessorState). look_refusal st leaf image) same,
       ap (λ (s : Shape). buckets_read x.key s skipped leaf image) (sym is.record_is.shape) ∙ alike.buckets ∙ ap (λ (st : ProcessorState). buckets_looked st leaf image) same,
     )
 
@@ -89,10 +89,10 @@ look_new_so {x} {c} {looked} {kept} leaf image no_tag is same tags_are small =
     let low = subst (λ (st : ProcessorState). leaf < 2 ^ st.history.opening.shape.l) (sym same) small in
     let alike = read_alike x leaf image no_tag skipped (is_passed o (reverse x.session.history.events) leaf) is low (λ w held. ap (λ t. t || is_met o.shape.l leaf w) held) in (
       ap₂ (λ (s : Shape) (ts : List (List ℕ)). path_refusal x.key s (λ w. is_held x.holdings w || is_met s.l leaf w) (λ w. version_in x.holdings w) (λ w. slice_index_or ts w no_tag) leaf image)
-      (sym is.record_is.shape) tags_are
-      ∙ alike.refusal ∙ ap (λ (st : ProcessorState). leaf_refusal st.key st.history leaf image) same,
+          (sym is.record_is.shape) tags_are
+          ∙ alike.refusal ∙ ap (λ (st : ProcessorState). leaf_refusal st.key st.history leaf image) same,
       ap (λ (s : Shape). buckets_read x.key s (λ w. is_held x.holdings w || is_met s.l leaf w) leaf image) (sym is.record_is.shape)
-      ∙ alike.buckets ∙ ap (λ (st : ProcessorState). buckets_scanned st.key st.history leaf image) same,
+          ∙ alike.buckets ∙ ap (λ (st : ProcessorState). buckets_scanned st.key st.history leaf image) same,
     )
 
 -- what contracts see once the rooms hold other buckets

@@ -1,8 +1,7 @@
 -- Orders of a write-back, and the rooms that they are written in.
-use Rattle.std.proofs.Common.{◌≡◌, ℕ, ◌*◌, ◌<◌, ◌≤◌, List, length, All, sym, ap, ap₂, ◌∙◌, arith}
+use Rattle.std.proofs.Common.{◌≡◌, ℕ, ◌*◌, ◌≤◌, List, length, All, sym, ap, ◌∙◌, arith}
 use Rattle.std.proofs.lemmas.List.{length-map}
 use Rattle.std.proofs.lemmas.Nat.{mul-le}
-use Rattle.std.specs.List.{flat_map}
 use Rattle.tao_base.specs.Buckets.{IsInForm}
 use Rattle.tao_base.specs.Limits.{Shape, IsShape, bucket_len}
 use Rattle.tao_base.specs.declared.storage.Bucket.{Bucket}

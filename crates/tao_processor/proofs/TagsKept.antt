@@ -1,7 +1,7 @@
 -- The kept tags under one more event.
-use Rattle.std.proofs.Common.{◌≡◌, ◌≢◌, ℕ, zero, suc, ◌+◌, ◌*◌, ◌<◌, ◌≤◌, Bool, true, false, eqb, cond, List, [], ◌∷◌, length, drop, map, replicate, reverse, All, get_or, set, ◌-◌, Option, Some, None, is_some, refl, sym, ap, ◌∙◌, subst, arith, nat_eq, inl, inr, ◌⊎◌}
+use Rattle.std.proofs.Common.{◌≡◌, ◌≢◌, ℕ, zero, suc, ◌+◌, ◌<◌, ◌≤◌, Bool, true, false, eqb, cond, List, [], ◌∷◌, length, drop, map, reverse, All, get_or, set, ◌-◌, Some, is_some, refl, sym, ap, ◌∙◌, subst, arith, nat_eq, inl, inr, ◌⊎◌}
 use Rattle.std.specs.Prelude.{slice_index}
-use Rattle.std.specs.List.{slice_index_or, list_any, range_with_len, flat_map}
+use Rattle.std.specs.List.{slice_index_or, range_with_len}
 use Rattle.std.proofs.lemmas.Bool.{eqb-true, eq-eqb, cases_Bool, cases_lt, true≢false}
 use Rattle.std.specs.List.Sorted.{IsStrictlyIncreasing}
 use Rattle.std.proofs.lemmas.Option.{same_Some}
@@ -9,7 +9,7 @@ use Rattle.std.proofs.lemmas.List.{length-map, length-set, get_or-map, get_or-se
 use Rattle.std.proofs.lemmas.List.Folds.{list_any_at}
 use Rattle.std.proofs.lemmas.List.FromFn.{get_or-range_with_len, length-range_with_len}
 use Rattle.tao_base.specs.Buckets.{IsInForm}
-use Rattle.tao_base.specs.Limits.{Shape, IsShape, bucket_len, slots_len, tag_len}
+use Rattle.tao_base.specs.Limits.{Shape, IsShape, slots_len, tag_len}
 use Rattle.tao_base.specs.Session.{Opening}
 use Rattle.tao_base.specs.Tree.{node_count}
 use Rattle.tao_base.specs.declared.calls.Op.{Op}
@@ -30,11 +30,11 @@ use Rattle.tao_model.specs.OneMore.{with_one_more}
 use Rattle.tao_model.specs.Residence.{bucket_of, Unaltered}
 use Rattle.tao_model.specs.Trace.{nodes_in}
 use Rattle.tao_model.proofs.Stays.{newest_first}
-use Rattle.tao_tables.specs.Tags.{TellsTags, ReplacesTags}
+use Rattle.tao_tables.specs.Tags.{ReplacesTags}
 use Rattle.tao_tables.proofs.KeptFlags.{tags_are_told, tags_at_start}
 use Rattle.tao_tables.proofs.KeptWrites.{bucket_there}
 use Rattle.tao_processor.specs.Groups.{KeepsTags}
-use Rattle.tao_processor.specs.Tags.{has_tag, tag_at, HasPlaces, HasTagsOf, SetsTags, KeepsTagsOf}
+use Rattle.tao_processor.specs.Tags.{has_tag, tag_at, HasTagsOf, SetsTags, KeepsTagsOf}
 
 -- a store that writes format 2 has places for tags
 pub tags_long : (form : Form) → IsWritten form 2 → tag_len form ≡ 32

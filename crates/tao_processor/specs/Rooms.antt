@@ -1,5 +1,5 @@
 -- The rooms for the buckets of a path.
-use Rattle.std.specs.Prelude.{◌≡◌, ◌==◌, ◌||◌, nat_lt, ℕ, ◌+◌, ◌≤◌, ◌<◌, Bool, true, List, [], length, take, All, is_some}
+use Rattle.std.specs.Prelude.{◌≡◌, ℕ, ◌+◌, ◌≤◌, ◌<◌, true, List, [], length, take, All, is_some}
 use Rattle.std.specs.List.{filter_map}
 use Rattle.tao_base.specs.Limits.{Shape}
 use Rattle.tao_base.specs.declared.storage.Bucket.{Bucket}

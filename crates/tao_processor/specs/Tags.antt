@@ -1,5 +1,5 @@
 -- The tags that a processor keeps.
-use Rattle.std.specs.Prelude.{◌≡◌, ◌≢◌, ◌==◌, ℕ, ◌*◌, ◌<◌, Bool, List, [], length, drop, Some, slice_index}
+use Rattle.std.specs.Prelude.{◌≡◌, ◌≢◌, ◌==◌, ℕ, ◌<◌, Bool, List, [], length, drop, Some, slice_index}
 use Rattle.std.specs.List.{slice_index_or}
 use Rattle.tao_base.specs.Limits.{Shape, slots_len}
 use Rattle.tao_base.specs.Tree.{node_count}

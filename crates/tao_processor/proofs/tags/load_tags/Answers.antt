@@ -1,6 +1,5 @@
-use Rattle.std.proofs.Common.{◌≡◌, List, ℕ, ◌∷◌, map, replicate, sym, subst}
+use Rattle.std.proofs.Common.{List, ℕ, replicate, sym, subst}
 use Rattle.std.proofs.lemmas.Result.{IfOk-weaker}
-use Rattle.tao_bucket.specs.Encoding.{tag_of}
 use Rattle.tao_processor.specs.Tags.{HasTagsOf}
 use Rattle.tao_processor.proofs.TagsKept.{loaded_tags}
 use Rattle.tao_processor.proofs.tags.load_tags.Goals as goal

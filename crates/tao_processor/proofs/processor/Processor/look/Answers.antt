@@ -1,6 +1,5 @@
-use Rattle.std.proofs.Common.{◌≡◌, ◌+◌, ◌≤◌, List, ℕ, Some, length, replicate, map, take, vec_len, vec_capacity, All, sym, ap, ◌∙◌, subst, arith}
+use Rattle.std.proofs.Common.{◌≡◌, List, length, replicate, vec_len, vec_capacity, sym, ap, ◌∙◌, subst, arith}
 use Rattle.tao_bucket.specs.Rooms.{RoomState}
-use Rattle.tao_images.specs.Paths.{IsRoom, held_in}
 use Rattle.tao_processor.specs.Rooms.{buckets_held, KeepsRooms}
 use Rattle.tao_processor.proofs.Looked.{look_so, looked_so, held_read, rooms_read, rooms_empty, rooms_keep, err_of}
 use Rattle.tao_processor.proofs.WrittenBack.{whole_front}

@@ -1,4 +1,4 @@
-use Rattle.std.proofs.Common.{◌≡◌, length, All, sym, ap, ◌∙◌, subst, arith}
+use Rattle.std.proofs.Common.{ap, ◌∙◌, arith}
 use Rattle.tao_tables.specs.Pools.{wanted}
 use Rattle.tao_processor.proofs.ReserveKept.{grown_keeps, ready_keeps, counts_small}
 use Rattle.tao_processor.proofs.processor.Processor.reserve.Goals as goal
