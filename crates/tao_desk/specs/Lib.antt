@@ -1,0 +1,5 @@
+pub mod Calls
+pub mod Inside
+pub mod Refusals
+pub mod Sound
+pub mod State

@@ -1,0 +1,10 @@
+//! The desk: operations arrive, their paths are fetched, full periods are written back; each call has its whole promise in its contract.
+#![tactic(auto)]
+
+mod ask;
+mod desk;
+mod faults;
+
+pub use ask::Ask;
+pub use desk::Desk;
+pub use faults::{AckFault, AgainFault, ArriveFault, DoneFault, ScanFault, StartFault};
