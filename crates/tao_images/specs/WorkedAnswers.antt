@@ -77,13 +77,15 @@ last_leaf = image 7 0 7 (216 ∷ 177 ∷ 202 ∷ 189 ∷ 50 ∷ 73 ∷ 180 ∷ 1
 abbrev pub second_fetch : List ℕ → Option Refused
 second_fetch path = fetch_refusal zero_key (first_events kept_under_a_fetch 5) 1 path
 
--- the last versions of the write-backs out of order: the root with block 1, node 2 with block 0, node 3
+-- the last version of the root in the write-backs out of order, with block 1
 abbrev pub final_root : List ℕ
 final_root = image 1 3 8 (165 ∷ 65 ∷ 218 ∷ 94 ∷ 69 ∷ 60 ∷ 58 ∷ 224 ∷ [])
 
+-- that of node 2, with block 0
 abbrev pub final_left : List ℕ
 final_left = image 2 1 5 (45 ∷ 139 ∷ 38 ∷ 53 ∷ 109 ∷ 116 ∷ 150 ∷ 206 ∷ [])
 
+-- that of node 3, without a block
 abbrev pub final_right : List ℕ
 final_right = image 3 3 9 (173 ∷ 136 ∷ 47 ∷ 0 ∷ 221 ∷ 195 ∷ 85 ∷ 213 ∷ [])
 

@@ -25,7 +25,8 @@ use Rattle.tao_holdings.specs.Holding.{HoldingsState, is_held, contents_in, coun
 use Rattle.tao_processor.specs.Steps.{Finishes, LeavesBlocks, settled_where, is_for_block, found_by}
 use Rattle.tao_bucket.specs.Rooms.{RoomState}
 use Rattle.tao_processor.specs.Rooms.{KeepsRooms, buckets_held}
-use Rattle.tao_processor.specs.State.{ProcessorState, with_event}
+use Rattle.tao_images.specs.Answers.{with_event}
+use Rattle.tao_processor.specs.State.{ProcessorState}
 use Rattle.tao_processor.specs.Groups.{Parts, IsProcessor, KeepsHoldings, KeepsRequests, pools_of}
 use Rattle.tao_processor.proofs.DoneHoldings.{DoesFetch, done_holdings}
 use Rattle.tao_processor.proofs.DoneReady.{IsReadyForDone}

@@ -48,7 +48,8 @@ use Rattle.tao_requests.proofs.Followed.{follows_further}
 use Rattle.tao_holdings.specs.Holding.{HoldingsState, is_held, contents_in, count_in, touch_in, version_in, written_at}
 use Rattle.tao_holdings.specs.Lists.{with_entries_of}
 use Rattle.tao_processor.specs.Steps.{IsNodeOf, IsEmpty, stamps, written_of, HoldsAgain}
-use Rattle.tao_processor.specs.State.{ProcessorState, Issues, with_event}
+use Rattle.tao_images.specs.Answers.{with_event}
+use Rattle.tao_processor.specs.State.{ProcessorState, Issues}
 use Rattle.tao_processor.specs.Groups.{Parts, IsProcessor, NodesAre, pools_of}
 use Rattle.tao_base.specs.declared.storage.Order.{Order}
 use Rattle.tao_bucket.specs.Encoding.{format_of, tag_of}

@@ -89,3 +89,12 @@ met_first l leaf node depth short within low high =
             let below : node * m ≤ 2 ^ l + smaller = subst (λ n. n * m ≤ 2 ^ l + smaller) here (div-mul-le_self (2 ^ l + smaller) m) in
             lt-ltb (node * m - 2 ^ l) leaf (omega (arith, below, earlier, least))
         either smaller earlier on (inr past) = lt-ltb (node * m - 2 ^ l) leaf (omega (arith, past, earlier, least, most))
+
+-- each node of the tree is on some path
+pub all_met : (l node depth : ℕ) → l ≤ 16 → node ≤ node_count l → 2 ^ depth ≤ node → node < 2 * 2 ^ depth → is_met l (2 ^ l) node ≡ true
+all_met l node depth short within low high =
+    let all = shifted l node depth short within low high in
+    let one : 1 * 2 ^ l % 4294967296 ≡ 2 ^ l = one_shifted l short in
+    let whole : node * 2 ^ (l - depth) % 4294967296 ≡ node * 2 ^ (l - depth) = mod-eq_of_lt (omega (arith, all.1, all.2)) in
+    sym (met_first l (2 ^ l) node depth short within low high)
+    ∙ lt-ltb (node * 2 ^ (l - depth) % 4294967296 - 1 * 2 ^ l % 4294967296) (2 ^ l) (omega (arith, one, whole, all.0, all.1))

@@ -1,6 +1,5 @@
 -- What contracts see of the processor, and what is known of it after each event.
-use Rattle.std.specs.Prelude.{◌≡◌, ℕ, ◌+◌, ◌<◌, Bool, false, List, [], ◌∷◌, ◌++◌, reverse, Option}
-use Rattle.tao_base.specs.declared.session.Event.{Event}
+use Rattle.std.specs.Prelude.{◌≡◌, ℕ, ◌+◌, ◌<◌, Bool, false, List, [], reverse, Option}
 use Rattle.tao_base.specs.declared.session.Event.TheVariants.{Issue}
 use Rattle.tao_model.specs.Events.{issues}
 use Rattle.tao_base.specs.declared.storage.Bucket.{Bucket}
@@ -8,7 +7,7 @@ use Rattle.tao_base.specs.Limits.{Shape}
 use Rattle.tao_base.specs.Session.{History}
 use Rattle.tao_base.specs.Links.{FitsLinks}
 use Rattle.tao_base.specs.declared.storage.Order.{Order}
-use Rattle.tao_images.specs.Answers.{AreFetched, kept_tag}
+use Rattle.tao_images.specs.Answers.{AreFetched, kept_tag, with_event}
 use Rattle.tao_images.specs.Paths.{path_refusal, buckets_read}
 use Rattle.tao_images.specs.declared.nodes.Refused.{Refused}
 use Rattle.tao_images.specs.Honesty.{HasTagOf}
@@ -26,10 +25,6 @@ pub record ProcessorState : Type 0 where
   pub holdings : HoldingsState
   pub ready : Bool
   pub looked : List Bucket
-
--- the record with one more event
-abbrev pub with_event : History → Event → History
-with_event h e = record h { events = h.events ++ e ∷ [] }
 
 -- What is known of a processor after each event, also between a Done and its write-back.
 pub record IsProcessorSound (c : ProcessorState) : Type 0 where

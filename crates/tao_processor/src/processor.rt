@@ -1,12 +1,11 @@
 //! The processor: the proxy's tables, and the events that change them.
-mod looking;
-
 ghost use Rattle.std.specs.Prelude.{◌≡◌, ℕ, ◌+◌, ◌*◌, ◌<◌, ◌≤◌, [], ◌∷◌, true, false, IfOk, OnOk, OnErr, length, reverse, vec_len, All};
 ghost use Rattle.tao_base.specs.declared.session.Event.TheVariants.{Arrive, Done, Issue, Acked, Fault};
 ghost use Rattle.tao_model.specs.Events.{has_fault, arrived, dones, issues};
 ghost use Rattle.tao_model.specs.Requests.{fetched_leaf};
 ghost use Rattle.tao_model.specs.Lawful.{MayFollow};
 
+mod looking;
 mod readers;
 
 use crate::fetches::{Fetch, leaf_now};
@@ -104,7 +103,8 @@ impl Model for Processor {
 }
 
 impl Processor {
-    ghost use Rattle.tao_processor.specs.State.{with_event, IsProcessorSound, IsLookedAt, Issues, IsOpened};
+    ghost use Rattle.tao_images.specs.Answers.{with_event};
+    ghost use Rattle.tao_processor.specs.State.{IsProcessorSound, IsLookedAt, Issues, IsOpened};
 
     /// Loads all blocks, with these words for their positions, and begins a session.
     pub fn open(

@@ -1,12 +1,15 @@
 //! Answers of the server to fetches and to the closing scan.
 ghost use Rattle.std.specs.Prelude.{◌≡◌, ◌+◌, ◌*◌, ◌^◌, ◌<◌, [], length, OnOk, OnErr};
+ghost use Rattle.std.specs.List.{filter_map};
 ghost use Rattle.std.specs.Result.{result_err};
 ghost use Rattle.tao_base.specs.Limits.{bucket_len};
 ghost use Rattle.tao_images.specs.Answers.{leaf_refusal, buckets_scanned};
+ghost use Rattle.tao_images.specs.Paths.{held_in};
 ghost use Rattle.tao_processor.specs.State.{look_refusal, buckets_looked};
 
 use super::Processor;
 use crate::looking::{KnownNodes, NewNodes};
+use tao_bucket::Room;
 use tao_images::{Refused, read_path};
 
 impl Processor {
@@ -47,5 +50,12 @@ impl Processor {
         let new = NewNodes { known, leaf };
         self.looked = read_path(&self.p, &self.key, &new, leaf, path, &mut self.rooms)?;
         Ok(())
+    }
+
+    /// The rooms of the buckets that were looked at last.
+    pub fn looked(&self) -> &[Room]
+        ensures { filter_map held_in result.now ≡ self.now.looked }
+    {
+        &self.rooms[..self.looked]
     }
 }
