@@ -7,30 +7,34 @@ use Rattle.tao_base.specs.declared.session.Event.{Event}
 use Rattle.tao_base.specs.declared.session.Event.TheVariants.{Arrive, Done, Issue, Acked, Fault}
 use Rattle.tao_base.specs.Session.{Opening, History}
 use Rattle.tao_model.specs.Replies.{array_now}
-use Rattle.tao_model.specs.Transcript.{event_lines}
+use Rattle.tao_model.specs.Transcript.{event_lines, again_before}
 use Rattle.tao_model.specs.Lawful.{FollowsLawfully}
 use Rattle.tao_model.specs.OneMore.{AfterArrive}
 use Rattle.tao_model.proofs.OneMoreEvent.{one_more_arrive}
 use Rattle.tao_model.proofs.LawfulToWhole.{earlier_follows}
 use Rattle.tao_model.proofs.Stays.{newest_first}
 use Rattle.tao_model.proofs.PlainArrays.{length_step}
-use Rattle.tao_trace.specs.Printing.{events_before, lines_at, first_lines}
+use Rattle.tao_trace.specs.Printing.{events_before, sent_once, lines_at, first_lines}
 use Rattle.tao_trace.specs.Tables.{IsNext}
 
 pub front_follows : (h : History) (place : ℕ) → FollowsLawfully h.opening (reverse h.events) → FollowsLawfully h.opening (events_before h place)
 front_follows h place f = earlier_follows h.opening (reverse (drop place h.events)) (events_before h place)
     (subst (FollowsLawfully h.opening) (ap reverse (sym (take-append-drop place h.events)) ∙ reverse-append (take place h.events) (drop place h.events)) f)
 
-pub lines_are : (h : History) (place : ℕ) (d e : Event) → place < length h.events → get_or h.events place d ≡ e → lines_at h place ≡ event_lines h.opening (events_before h place) e
+-- the lines of an event, with that of a store sent again
+abbrev lines_of : History → ℕ → ℕ → Event → List ℕ
+lines_of h again place e = again_before (sent_once h again) (events_before h place) e ++ event_lines h.opening (events_before h place) e
+
+pub lines_are : (h : History) (again place : ℕ) (d e : Event) → place < length h.events → get_or h.events place d ≡ e → lines_at h again place ≡ lines_of h again place e
 unfolding lines_at
-lines_are h place d e below at = ap (first_lines h.opening (events_before h place)) (drop-cons h.events place d below) ∙ ap (event_lines h.opening (events_before h place)) at
+lines_are h again place d e below at = ap (first_lines h.opening (sent_once h again) (events_before h place)) (drop-cons h.events place d below) ∙ ap (lines_of h again place) at
 
 -- the event at the place comes next
 pub comes_next : (h : History) (place : ℕ) (d e : Event) → FollowsLawfully h.opening (reverse h.events) → place < length h.events → get_or h.events place d ≡ e → IsNext h place e
 comes_next h place d e f below at = record {
   below = below;
   before = before;
-  lines = lines_are h place d e below at;
+  lines = λ again. lines_are h again place d e below at;
   follows = subst (FollowsLawfully h.opening) before (front_follows h (place + 1) f);
 }
   where

@@ -4,6 +4,7 @@ pub mod Kept
 pub mod NextReal
 pub mod Ranges
 pub mod Released
+pub mod Resent
 pub mod Starts
 pub mod Steps
 pub mod Texts

@@ -37,30 +37,30 @@ leaf_is o es client (Read id) word f = leaf_block o es client (Read id) word id 
 leaf_is o es client (Write id value) word f = leaf_block o es client (Write id value) word id (real_now es (Write id value)) refl f (λ real. (after_arrive o es client (Write id value) word f).leaf_of_block id (eq-eqb id id refl) real)
 leaf_is o es client Pad word f = (after_arrive o es client Pad word f).leaf_of_word refl
 
-pub arrive_text : (h : History) (place : ℕ) (client word arrival leaf : ℕ) (op : Op) (told : List Told) (slots : List Slot) (flags : List Bool)
+pub arrive_text : (h : History) (again place : ℕ) (client word arrival leaf : ℕ) (op : Op) (told : List Told) (slots : List Slot) (flags : List Bool)
     → Fit h place told slots flags → IsNext h place (Arrive client op word) → arrival ≡ length told → leaf ≡ leaf_of h.opening.shape.l (word_fetched h.opening (events_before h place) op word)
-    → arrive_line arrival client op ++ words_line (codes "fetch") (arrival ∷ leaf ∷ []) ≡ lines_at h place
-arrive_text h place client word arrival leaf op told slots flags f n at is =
+    → arrive_line arrival client op ++ words_line (codes "fetch") (arrival ∷ leaf ∷ []) ≡ lines_at h again place
+arrive_text h again place client word arrival leaf op told slots flags f n at is =
     ap (λ i. arrive_line i client op ++ words_line (codes "fetch") (i ∷ leaf ∷ [])) (at ∙ f.tables.arrivals)
     ∙ ap (λ (x : ℕ). arrive_line (arrived (events_before h place)) client op ++ words_line (codes "fetch") (arrived (events_before h place) ∷ x ∷ []))
     (is ∙ sym (leaf_is h.opening (events_before h place) client op word n.follows))
-    ∙ sym n.lines
+    ∙ sym (n.lines again)
 
 -- a Done releases the answers from the first number up to the second, and its text is its line and theirs
-pub record Releases (h : History) (place arrival first end : ℕ) : Type 0 where
+pub record Releases (h : History) (again place arrival first end : ℕ) : Type 0 where
   pub low : first ≤ end
   pub high : end ≤ arrived (events_before h place)
-  pub text : words_line (codes "done") (arrival ∷ []) ++ flat_map (reply_line h.opening (events_before h place)) (range_with_len first (end - first)) ≡ lines_at h place
+  pub text : words_line (codes "done") (arrival ∷ []) ++ flat_map (reply_line h.opening (events_before h place)) (range_with_len first (end - first)) ≡ lines_at h again place
 
-pub done_releases : (h : History) (place arrival first end : ℕ) (taken : List Bucket) (told : List Told) (slots : List Slot) (flags : List Bool)
-    → Fit h place told slots flags → IsNext h place (Done arrival taken) → IsReleased flags first → IsReleased (set flags arrival true) end → Releases h place arrival first end
-done_releases h place arrival first end taken told slots flags f n before after = record {
+pub done_releases : (h : History) (again place arrival first end : ℕ) (taken : List Bucket) (told : List Told) (slots : List Slot) (flags : List Bool)
+    → Fit h place told slots flags → IsNext h place (Done arrival taken) → IsReleased flags first → IsReleased (set flags arrival true) end → Releases h again place arrival first end
+done_releases h again place arrival first end taken told slots flags f n before after = record {
   low = let grows = released_grows_later (Done arrival taken ∷ []) (events_before h place) in let from = first_is in let to = end_is in omega arith;
   high = let within = (leading_is (is_done (Done arrival taken ∷ events_before h place)) (arrived (events_before h place))).within in let to = end_is in omega arith;
   text = ap (λ (x : ℕ). words_line (codes "done") (arrival ∷ []) ++ flat_map (reply_line h.opening (events_before h place)) (range_with_len first (x - first))) end_is
       ∙ ap (λ (x : ℕ). words_line (codes "done") (arrival ∷ [])
       ++ flat_map (reply_line h.opening (events_before h place)) (range_with_len x (released (Done arrival taken ∷ events_before h place) - x))) first_is
-      ∙ sym n.lines;
+      ∙ sym (n.lines again);
 }
   where
     first_is : first ≡ released (events_before h place)

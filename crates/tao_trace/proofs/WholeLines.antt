@@ -1,5 +1,5 @@
 -- What is printed are whole lines.
-use Rattle.std.proofs.Common.{inl, inr, ℕ, Bool, true, false, ◌-◌, List, [], ◌∷◌, ◌++◌, codes, length, drop, flat_map, cond, refl, sym, ap, ◌∙◌, subst, append_assoc, append-nil}
+use Rattle.std.proofs.Common.{inl, inr, ℕ, Bool, true, false, nat_le, ◌==◌, ◌-◌, List, [], ◌∷◌, ◌++◌, codes, length, drop, flat_map, cond, refl, sym, ap, ◌∙◌, subst, append_assoc, append-nil}
 use Rattle.std.specs.List.{range_with_len}
 use Rattle.tao_base.specs.declared.parameters.Form.{Form}
 use Rattle.tao_base.specs.declared.parameters.Form.TheVariants.{One, Two, Turn}
@@ -11,12 +11,12 @@ use Rattle.tao_base.specs.Lines.{spaced, spaced_hex, ended, words_line, hex_line
 use Rattle.tao_base.specs.Session.{Opening}
 use Rattle.tao_base.specs.Array.{block_at}
 use Rattle.tao_base.specs.Tree.{node_count}
-use Rattle.tao_model.specs.Events.{arrived, client_of, is_pad}
+use Rattle.tao_model.specs.Events.{arrived, acks, client_of, is_pad}
 use Rattle.tao_model.specs.Requests.{fetched_leaf}
 use Rattle.tao_model.specs.Replies.{plain_reply, released}
 use Rattle.tao_model.specs.Trace.{nodes_in}
-use Rattle.tao_model.specs.Transcript.{opening_lines, form_line, first_line, is_zero, event_lines, arrive_line, reply_line, reply_lines, cause_line, fault_name, op_words, tree_line}
-use Rattle.tao_trace.specs.Printing.{lines_at, first_lines, events_before}
+use Rattle.tao_model.specs.Transcript.{opening_lines, form_line, first_line, is_zero, event_lines, again_line, again_before, arrive_line, reply_line, reply_lines, cause_line, fault_name, op_words, tree_line}
+use Rattle.tao_trace.specs.Printing.{lines_at, first_lines, events_before, sent_once}
 use Rattle.tao_trace.specs.WholeLines.{AreLines, LinesAreWhole}
 
 -- lines, and then some more lines
@@ -74,15 +74,38 @@ event_whole o es (Issue version nonce buckets) = words_whole (codes "store") (ve
 event_whole o es (Acked version) = words_whole (codes "ack") (version ∷ [])
 event_whole o es (Fault cause) = cause_whole cause
 
-first_whole : (o : Opening) (before rest : List Event) → AreLines (first_lines o before rest)
-first_whole o before [] = inl refl
-first_whole o before (e ∷ rest) = event_whole o before e
+again_line_whole : (es : List Event) (v : ℕ) → AreLines (again_line es v)
+again_line_whole [] v = inl refl
+again_line_whole (Arrive client op word ∷ es) v = again_line_whole es v
+again_line_whole (Done arrival taken ∷ es) v = again_line_whole es v
+again_line_whole (Issue version nonce buckets ∷ es) v = either (version == v) (again_line_whole es v)
+  where
+    either : (b : Bool) → AreLines (again_line es v) → AreLines (cond b (words_line (codes "again") (version ∷ nonce ∷ nodes_in buckets)) (again_line es v))
+    either true older = words_whole (codes "again") (version ∷ nonce ∷ nodes_in buckets)
+    either false older = older
+again_line_whole (Acked version ∷ es) v = again_line_whole es v
+again_line_whole (Fault cause ∷ es) v = again_line_whole es v
+
+again_whole : (once : ℕ) (es : List Event) (e : Event) → AreLines (again_before once es e)
+again_whole once es (Arrive client op word) = inl refl
+again_whole once es (Done arrival taken) = inl refl
+again_whole once es (Issue version nonce buckets) = inl refl
+again_whole once es (Acked version) = either (nat_le once (acks es))
+  where
+    either : (b : Bool) → AreLines (cond b (again_line es version) [])
+    either true = again_line_whole es version
+    either false = inl refl
+again_whole once es (Fault cause) = inl refl
+
+first_whole : (o : Opening) (once : ℕ) (before rest : List Event) → AreLines (first_lines o once before rest)
+first_whole o once before [] = inl refl
+first_whole o once before (e ∷ rest) = more_lines (again_before once before e) (event_lines o before e) (again_whole once before e) (event_whole o before e)
 
 pub lines_are_whole : LinesAreWhole
 unfolding lines_at
 lines_are_whole = record {
   opening = opening_whole;
-  event = λ h place. first_whole h.opening (events_before h place) (drop place h.events);
+  event = λ h again place. first_whole h.opening (sent_once h again) (events_before h place) (drop place h.events);
   scan = inr (codes "scan", refl);
   block = λ blocks id. hex_whole (codes "block") (id ∷ []) (block_at blocks id);
 }

@@ -18,6 +18,6 @@ pub record AreFirstLines (lines text : List ℕ) : Type 0 where
 -- A transcript is printed in whole lines: those of the opening, of each event and of each block.
 pub record LinesAreWhole : Type 0 where
   pub opening : (o : Opening) → AreLines (opening_lines o)
-  pub event : (h : History) (place : ℕ) → AreLines (lines_at h place)
+  pub event : (h : History) (again place : ℕ) → AreLines (lines_at h again place)
   pub scan : AreLines (codes "scan\n")
   pub block : (blocks : List (List ℕ)) (id : ℕ) → AreLines (block_line blocks id)

@@ -6,8 +6,8 @@ ghost use Rattle.tao_base.specs.declared.session.Event.TheVariants.{Arrive, Done
 ghost use Rattle.tao_text.specs.Lines.{Extends};
 ghost use Rattle.tao_model.specs.Events.{arrived};
 ghost use Rattle.tao_model.specs.Lawful.{IsInRange};
-ghost use Rattle.tao_model.specs.Transcript.{reply_line};
-ghost use Rattle.tao_trace.specs.Printing.{printed, gone_on, lines_at};
+ghost use Rattle.tao_model.specs.Transcript.{reply_line, again_before};
+ghost use Rattle.tao_trace.specs.Printing.{printed, gone_on, sent_once, lines_at};
 ghost use Rattle.tao_trace.specs.Tables.{NextOf, IsDoneNext};
 
 use crate::lines::{push_arrive, push_cause, push_store};
@@ -20,7 +20,7 @@ impl<'a> Tables<'a> {
     pub(crate) fn print_next(&mut self, out: &mut Image) -> Result<(), NoMemory>
         requires { self.old.place < length self.old.history.events }
         ensures ok { OnOk result (self.new ≡ gone_on self.old) }
-        ensures lines { OnOk result (out.new ≡ out.old ++ lines_at self.old.history self.old.place) }
+        ensures lines { OnOk result (out.new ≡ out.old ++ lines_at self.old.history self.old.again self.old.place) }
         ensures err { OnErr result (self.new ≡ self.old) }
         ensures front { OnErr result (Extends out.old out.new) }
     {
@@ -30,7 +30,7 @@ impl<'a> Tables<'a> {
 
     fn push_next(&self, out: &mut Image) -> Result<(), NoMemory>
         requires { self.now.place < length self.now.history.events }
-        ensures ok { OnOk result (out.new ≡ out.old ++ lines_at self.now.history self.now.place) }
+        ensures ok { OnOk result (out.new ≡ out.old ++ lines_at self.now.history self.now.again self.now.place) }
         ensures err { OnErr result (Extends out.old out.new) }
     {
         match self.next_event() {
@@ -40,8 +40,8 @@ impl<'a> Tables<'a> {
                 version,
                 nonce,
                 buckets,
-            } => push_store(out, *version, *nonce, buckets.as_slice()),
-            Event::Acked { version } => line_words(out, "ack", &[u64::from(*version)]),
+            } => push_store(out, "store", *version, *nonce, buckets.as_slice()),
+            Event::Acked { version } => self.push_acked(out, *version),
             Event::Fault { cause } => push_cause(out, cause),
         }
     }
@@ -58,8 +58,17 @@ impl<'a> Tables<'a> {
                 self.add_done(*arrival);
                 Ok(())
             }
-            Event::Issue { .. } | Event::Acked { .. } | Event::Fault { .. } => {
-                self.place = self.next_place();
+            Event::Issue {
+                version,
+                nonce,
+                buckets,
+            } => self.add_issue(*version, *nonce, buckets.as_slice()),
+            Event::Acked { version } => {
+                self.add_acked(*version);
+                Ok(())
+            }
+            Event::Fault { cause } => {
+                self.add_fault(cause);
                 Ok(())
             }
         }
@@ -75,7 +84,7 @@ impl<'a> Tables<'a> {
     fn push_arrival(&self, out: &mut Image, client: u32, op: &Op, word: u32) -> Result<(), NoMemory>
         requires next { NextOf self.now (Arrive client op.now word) }
         requires range { IsInRange self.now.history.opening.shape op.now }
-        ensures ok { OnOk result (out.new ≡ out.old ++ lines_at self.now.history self.now.place) }
+        ensures ok { OnOk result (out.new ≡ out.old ++ lines_at self.now.history self.now.again self.now.place) }
         ensures err { OnErr result (Extends out.old out.new) }
     {
         let arrival = self.told.len() as u64;
@@ -87,7 +96,7 @@ impl<'a> Tables<'a> {
     #[tactic(auto, using(tao_text::proofs::Appended::extends_through))]
     fn push_done(&self, out: &mut Image, arrival: u64) -> Result<(), NoMemory>
         requires { IsDoneNext self.now arrival }
-        ensures ok { OnOk result (out.new ≡ out.old ++ lines_at self.now.history self.now.place) }
+        ensures ok { OnOk result (out.new ≡ out.old ++ lines_at self.now.history self.now.again self.now.place) }
         ensures err { OnErr result (Extends out.old out.new) }
     {
         let released = self.sequence.released();
@@ -120,5 +129,29 @@ impl<'a> Tables<'a> {
             Some(value) => line_hex(out, "reply", &[arrival, u64::from(row.client)], value),
             None => Ok(()),
         }
+    }
+
+    #[tactic(auto, using(tao_text::proofs::Appended::extends_through))]
+    fn push_acked(&self, out: &mut Image, version: u32) -> Result<(), NoMemory>
+        requires { NextOf self.now (Acked version) }
+        ensures ok { OnOk result (out.new ≡ out.old ++ lines_at self.now.history self.now.again self.now.place) }
+        ensures err { OnErr result (Extends out.old out.new) }
+    {
+        self.push_again(out, version)?;
+        line_words(out, "ack", &[u64::from(version)])?;
+        Ok(())
+    }
+
+    // The line of a store that was sent again.
+    fn push_again(&self, out: &mut Image, version: u32) -> Result<(), NoMemory>
+        requires { NextOf self.now (Acked version) }
+        ensures ok { OnOk result (out.new ≡ out.old ++ again_before (sent_once self.now.history self.now.again) (printed self.now) (Acked version)) }
+        ensures err { OnErr result (Extends out.old out.new) }
+    {
+        if self.once > 0 {
+            return Ok(());
+        }
+        let row = &self.sent[version as usize - 1];
+        push_store(out, "again", version, row.nonce, row.buckets)
     }
 }

@@ -7,7 +7,7 @@ pub fn lines_go_on()
     ensures { LinesGoOn }
 {}
 
-/// The opening, the lines of all events and the close are the transcript of a record whose stores weren't sent again.
+/// The opening, the lines of all events and the close are the transcript, however many stores were sent again.
 pub fn text_is_printed()
     ensures { TextIsPrinted }
 {}

@@ -9,7 +9,7 @@ mod opening;
 mod printer;
 mod tables;
 
-pub use close::{print_block, print_final, print_scan};
+pub use close::{print_block, print_scan};
 pub use laws::{lines_are_whole, lines_go_on, text_is_printed};
 pub use opening::print_opening;
 pub use printer::{Printer, print_event};

@@ -46,14 +46,15 @@ fn push_op(out: &mut Image, op: &Op) -> Result<(), NoMemory>
 #[tactic(auto, unfolding(tao_base::specs::Lines::words_line))]
 pub(crate) fn push_store(
     out: &mut Image,
+    word: &str,
     version: u32,
     nonce: u64,
     buckets: &[Bucket],
 ) -> Result<(), NoMemory>
-    ensures ok { OnOk result (out.new ≡ out.old ++ words_line (codes "store") (version ∷ nonce ∷ nodes_in buckets.now)) }
+    ensures ok { OnOk result (out.new ≡ out.old ++ words_line word.now (version ∷ nonce ∷ nodes_in buckets.now)) }
     ensures err { OnErr result (Extends out.old out.new) }
 {
-    begin_line(out, "store")?;
+    begin_line(out, word)?;
     push_number(out, u64::from(version))?;
     push_number(out, nonce)?;
     push_nodes(out, buckets)?;

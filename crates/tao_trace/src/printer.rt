@@ -29,12 +29,12 @@ impl<'a> Printer<'a> {
     ghost use Rattle.tao_model.specs.Lawful.{FollowsLawfully};
     ghost use Rattle.tao_trace.specs.Printing.{PrinterState, lines_at, at_start};
 
-    /// A printer before the first event.
-    pub fn new(alloc: Global, history: &'a Record) -> Result<Printer<'a>, NoMemory>
+    /// A printer before the first event. The last `again` acknowledgements are of stores that were sent again at the close.
+    pub fn new(alloc: Global, history: &'a Record, again: usize) -> Result<Printer<'a>, NoMemory>
         requires { FollowsLawfully history.now.history.opening (reverse history.now.history.events) }
-        ensures { IfOk result (λ p. p ≡ at_start history.now.history) }
+        ensures { IfOk result (λ p. p ≡ at_start history.now.history again) }
     {
-        let tables = Tables::new(alloc, history)?;
+        let tables = Tables::new(alloc, history, again)?;
         Ok(Printer { tables })
     }
 
@@ -48,7 +48,7 @@ impl<'a> Printer<'a> {
     /// Appends the lines of the next event and goes on. Where memory runs out nothing has changed.
     pub fn print_next(&mut self, out: &mut Image) -> Result<(), NoMemory>
         requires { self.old.place < length self.old.history.events }
-        ensures lines { OnOk result (out.new ≡ out.old ++ lines_at self.old.history self.old.place) }
+        ensures lines { OnOk result (out.new ≡ out.old ++ lines_at self.old.history self.old.again self.old.place) }
         ensures ok { OnOk result (self.new ≡ record self.old { place = self.old.place + 1 }) }
         ensures err { OnErr result (out.new ≡ out.old) }
         ensures stays { OnErr result (self.new ≡ self.old) }
@@ -72,7 +72,7 @@ impl<'a> Printer<'a> {
     }
 }
 
-/// Appends the lines of the event at a place. The events before it are gone over first, which takes time and memory in their number.
+/// Appends the lines of the event at a place, as if no store was sent again. The events before it are gone over first, which takes time and memory in their number.
 pub fn print_event(
     alloc: Global,
     out: &mut Image,
@@ -81,10 +81,10 @@ pub fn print_event(
 ) -> Result<(), NoMemory>
     requires lawful { FollowsLawfully history.now.history.opening (reverse history.now.history.events) }
     requires place { place < length history.now.history.events }
-    ensures ok { OnOk result (out.new ≡ out.old ++ lines_at history.now.history place) }
+    ensures ok { OnOk result (out.new ≡ out.old ++ lines_at history.now.history 0 place) }
     ensures err { OnErr result (out.new ≡ out.old) }
 {
-    let mut printer = Printer::new(alloc, history)?;
+    let mut printer = Printer::new(alloc, history, 0)?;
     for _ in 0..place {
         printer.pass_next()?;
     }

@@ -1,22 +1,22 @@
 //! What is kept of the events that were printed: of each arrival, of each block, and which arrivals are done.
 ghost use Rattle.std.specs.Prelude.{◌≡◌, ◌+◌, ◌-◌, ◌<◌, ◌≤◌, ◌%◌, ◌^◌, ◌↔◌, [], ◌∷◌, ◌++◌, length, reverse, slice_index, Some, None, OnOk, OnErr, IfOk, get_or};
-ghost use Rattle.std.specs.List.{slice_index_or};
+ghost use Rattle.std.specs.List.{slice_index_or, count_by};
 ghost use Rattle.std.specs.Option.{option_map};
 ghost use Rattle.tao_base.specs.declared.calls.Op.TheVariants.{Read};
 ghost use Rattle.tao_base.specs.Array.{block_at};
 ghost use Rattle.tao_base.specs.Limits.{IsShape};
 ghost use Rattle.tao_base.specs.Tree.{leaf_of};
-ghost use Rattle.tao_base.specs.declared.session.Event.TheVariants.{Arrive, Done};
+ghost use Rattle.tao_base.specs.declared.session.Event.TheVariants.{Arrive, Done, Issue, Acked, Fault};
 ghost use Rattle.tao_model.specs.Events.{arrived, word_at, NamesBelow};
 ghost use Rattle.tao_model.specs.Requests.{real_now, next_word};
 ghost use Rattle.tao_model.specs.Replies.{array_now};
 ghost use Rattle.tao_model.specs.Lawful.{FollowsLawfully, IsInRange};
 ghost use Rattle.tao_trace.specs.Printing.{printed, gone_on, at_start};
-ghost use Rattle.tao_trace.specs.Tables.{AreFirst, NextOf, IsDoneNext, AreMoved, word_fetched, reply_for};
+ghost use Rattle.tao_trace.specs.Tables.{is_ack, AreFirst, NextOf, IsDoneNext, AreMoved, word_fetched, reply_for};
 
 use std::alloc::Global;
 use std::marker::Model;
-use tao_base::{Block, NoMemory, Op};
+use tao_base::{Block, Bucket, Cause, Event, NoMemory, Op};
 use tao_record::Record;
 use tao_sequence::Sequence;
 
@@ -35,7 +35,14 @@ pub(crate) struct Slot<'a> {
     pub(crate) value: &'a Block,
 }
 
-/// What is kept of the events before a place of the record.
+/// A write-back, as it is sent again.
+#[derive(Clone, Copy, Debug)]
+pub(crate) struct Sent<'a> {
+    pub(crate) nonce: u64,
+    pub(crate) buckets: &'a [Bucket],
+}
+
+/// What is kept of the events before a place of the record. The next `once` acknowledgements are of stores that were sent once.
 #[derive(Debug, Drop)]
 pub(crate) struct Tables<'a> {
     pub(crate) history: &'a Record,
@@ -43,24 +50,31 @@ pub(crate) struct Tables<'a> {
     pub(crate) told: Vec<Told<'a>>,
     pub(crate) slots: Vec<Slot<'a>>,
     pub(crate) sequence: Sequence,
+    pub(crate) sent: Vec<Sent<'a>>,
+    pub(crate) once: usize,
+    pub(crate) again: usize,
 }
 
 impl<'a> Model for Tables<'a> {
     ghost use Rattle.tao_trace.specs.Printing.{PrinterState};
-    ghost use Rattle.tao_trace.specs.Tables.{Fit};
+    ghost use Rattle.tao_trace.specs.Tables.{FitAll};
 
     ghost Value = { PrinterState };
 
-    ghost view = { λ t. record { history = t.history.now.history; place = t.place } };
+    ghost view = { λ t. record { history = t.history.now.history; place = t.place; again = t.again } };
 
-    ghost invariant = { λ t. Fit t.history.now.history t.place t.told.items t.slots.items t.sequence };
+    ghost invariant = { λ t. FitAll t.history.now.history t.place t.again t.told.items t.slots.items t.sequence t.sent.items t.once };
 }
 
 impl<'a> Tables<'a> {
-    /// Before the first event.
-    pub(crate) fn new(alloc: Global, history: &'a Record) -> Result<Tables<'a>, NoMemory>
+    /// Before the first event. The last `again` acknowledgements are of stores that were sent again.
+    pub(crate) fn new(
+        alloc: Global,
+        history: &'a Record,
+        again: usize,
+    ) -> Result<Tables<'a>, NoMemory>
         requires { FollowsLawfully history.now.history.opening (reverse history.now.history.events) }
-        ensures { IfOk result (λ t. t ≡ at_start history.now.history) }
+        ensures { IfOk result (λ t. t ≡ at_start history.now.history again) }
     {
         Ok(Tables {
             history,
@@ -68,6 +82,9 @@ impl<'a> Tables<'a> {
             told: Vec::new(alloc),
             slots: first_slots(alloc, history.first())?,
             sequence: Sequence::new(alloc, history.params())?,
+            sent: Vec::new(alloc),
+            once: count_acks(history.events()).saturating_sub(again),
+            again,
         })
     }
 
@@ -176,6 +193,40 @@ impl<'a> Tables<'a> {
         self.place = next;
     }
 
+    /// Keeps a write-back.
+    pub(crate) fn add_issue(
+        &mut self,
+        version: u32,
+        nonce: u64,
+        buckets: &'a [Bucket],
+    ) -> Result<(), NoMemory>
+        requires { NextOf self.old (Issue version nonce buckets.now) }
+        ensures ok { OnOk result (self.new ≡ gone_on self.old) }
+        ensures err { OnErr result (self.new ≡ self.old) }
+    {
+        let next = self.next_place();
+        self.sent.push(Sent { nonce, buckets })?;
+        self.place = next;
+        Ok(())
+    }
+
+    /// Keeps an acknowledgement.
+    pub(crate) fn add_acked(&mut self, version: u32)
+        requires { NextOf self.old (Acked version) }
+        ensures { self.new ≡ gone_on self.old }
+    {
+        self.place = self.next_place();
+        self.once = self.once.saturating_sub(1);
+    }
+
+    /// Keeps a Fault.
+    pub(crate) fn add_fault(&mut self, cause: &Cause)
+        requires { NextOf self.old (Fault cause.now) }
+        ensures { self.new ≡ gone_on self.old }
+    {
+        self.place = self.next_place();
+    }
+
     /// The place behind the next event.
     pub(crate) fn next_place(&self) -> usize
         requires { self.now.place < length self.now.history.events }
@@ -184,6 +235,18 @@ impl<'a> Tables<'a> {
         let _all = self.history.events().len();
         self.place + 1
     }
+}
+
+fn count_acks(events: &[Event]) -> usize
+    ensures { result ≡ count_by is_ack events.now }
+{
+    events.iter().filter(|event| is_ack(event)).count()
+}
+
+fn is_ack(event: &Event) -> bool
+    ensures { result ≡ is_ack event.now }
+{
+    matches!(event, Event::Acked { .. })
 }
 
 fn first_word(words: &[u32], block: usize) -> u32

@@ -5,7 +5,7 @@ ghost use Rattle.tao_model.specs.Lawful.{FollowsLawfully};
 ghost use Rattle.tao_record.specs.State.{FitDone, FitIssue};
 ghost use Rattle.tao_trace.specs.Told.{bare, told_opening, told_record, arrivals, later_events};
 
-use crate::{Printer, print_block, print_event, print_final, print_opening, print_scan};
+use crate::{Printer, print_block, print_event, print_opening, print_scan};
 use std::alloc::Global;
 use std::test::Fail;
 use tao_base::{
@@ -105,23 +105,33 @@ fn told(alloc: Global) -> Result<Record, Fail>
 }
 
 // The whole text, event by event.
-fn text_of(alloc: Global, record_of: &Record, last: &[Block]) -> Result<Image, NoMemory>
+fn text_of(
+    alloc: Global,
+    record_of: &Record,
+    last: &[Block],
+    again: usize,
+) -> Result<Image, NoMemory>
     requires lawful { FollowsLawfully record_of.now.history.opening (reverse record_of.now.history.events) }
     requires blocks { length last.now ≡ 2 }
 {
     let mut out = Image::new(alloc);
     print_opening(&mut out, record_of)?;
-    print_events(alloc, &mut out, record_of)?;
+    print_events(alloc, &mut out, record_of, again)?;
     print_scan(&mut out)?;
     print_block(&mut out, last, 0)?;
     print_block(&mut out, last, 1)?;
     Ok(out)
 }
 
-fn print_events(alloc: Global, out: &mut Image, record_of: &Record) -> Result<(), NoMemory>
+fn print_events(
+    alloc: Global,
+    out: &mut Image,
+    record_of: &Record,
+    again: usize,
+) -> Result<(), NoMemory>
     requires { FollowsLawfully record_of.now.history.opening (reverse record_of.now.history.events) }
 {
-    let mut printer = Printer::new(alloc, record_of)?;
+    let mut printer = Printer::new(alloc, record_of, again)?;
     for _ in 0..printer.left() {
         printer.print_next(out)?;
     }
@@ -146,38 +156,32 @@ fn one_text(alloc: Global, record_of: &Record, place: usize) -> Result<Image, No
     Ok(out)
 }
 
-fn final_text(alloc: Global, last: &[Block]) -> Result<Image, NoMemory> {
-    let mut out = Image::new(alloc);
-    print_final(&mut out, last)?;
-    Ok(out)
-}
-
 const TEXT: &str =
     "tree 1 1 4 2 3\nform 2\nfirst 1 61616161\nload 3\narrive 0 0 write 0 62626262\nfetch 0 0\narrive 1 1 read 0\nfetch 1 1\narrive 2 2 pad\nfetch 2 0\ndone 1\ndone 2\ndone 0\nreply 0 0 00000000\nreply 1 1 62626262\nstore 1 4 1 2 3\nack 1\narrive 3 0 read 1\nfetch 3 1\nrefused 3 3 damaged Tag\nscan\nblock 0 62626262\nblock 1 61616161\n";
 
-const DONE: &str = "done 0\nreply 0 0 00000000\nreply 1 1 62626262\n";
+const SENT_AGAIN: &str =
+    "tree 1 1 4 2 3\nform 2\nfirst 1 61616161\nload 3\narrive 0 0 write 0 62626262\nfetch 0 0\narrive 1 1 read 0\nfetch 1 1\narrive 2 2 pad\nfetch 2 0\ndone 1\ndone 2\ndone 0\nreply 0 0 00000000\nreply 1 1 62626262\nstore 1 4 1 2 3\nagain 1 4 1 2 3\nack 1\narrive 3 0 read 1\nfetch 3 1\nrefused 3 3 damaged Tag\nscan\nblock 0 62626262\nblock 1 61616161\n";
 
-const CLOSE: &str = "scan\nblock 0 62626262\nblock 1 61616161\n";
+const DONE: &str = "done 0\nreply 0 0 00000000\nreply 1 1 62626262\n";
 
 #[test]
 fn whole_text(rt: HostRuntime) -> Result<(), Fail> {
     let alloc = rt.alloc();
     let record_of = told(alloc)?;
     let last = last_blocks(alloc)?;
-    let out = text_of(alloc, &record_of, last.as_slice())?;
-    assert_eq!(rt; out.as_slice(), TEXT.as_bytes());
+    let once = text_of(alloc, &record_of, last.as_slice(), 0)?;
+    assert_eq!(rt; once.as_slice(), TEXT.as_bytes());
+    let twice = text_of(alloc, &record_of, last.as_slice(), 1)?;
+    assert_eq!(rt; twice.as_slice(), SENT_AGAIN.as_bytes());
     Ok(())
 }
 
-// a Done that releases two replies; the closing lines together
+// a Done that releases two replies
 #[test]
 fn one_event(rt: HostRuntime) -> Result<(), Fail> {
     let alloc = rt.alloc();
     let record_of = told(alloc)?;
     let out = one_text(alloc, &record_of, 5)?;
     assert_eq!(rt; out.as_slice(), DONE.as_bytes());
-    let last = last_blocks(alloc)?;
-    let closing = final_text(alloc, last.as_slice())?;
-    assert_eq!(rt; closing.as_slice(), CLOSE.as_bytes());
     Ok(())
 }

@@ -131,7 +131,7 @@ module _ {K : Type 0} (put : K → Option (List ℕ)) (faults : K → ℕ) where
       → Finishes put faults b c 0 (waits ++ end_line Done) result → EndsAs put faults a c (SessionEnds h blocks) result
   ends_done a b c waits h blocks result told finished =
       ends_with put faults a c (SessionEnds h blocks) Done (session_lines h blocks ++ end_line Done) result
-      (sym (text_is_printed h (Some blocks) (end_line Done)))
+      (sym (text_is_printed h 0 (Some blocks) (end_line Done)))
       (finishes_told put faults a b c (session_lines h blocks) waits (end_line Done) 0 result told finished)
 
   pub ends_short : (a b c : K) (waited waits : List ℕ) (h : History) (blocks : List (List ℕ)) (result : ℕ) → waited ≡ []
@@ -139,12 +139,12 @@ module _ {K : Type 0} (put : K → Option (List ℕ)) (faults : K → ℕ) where
       → Finishes put faults b c 8 (waits ++ end_line ends.NoMemory) result → EndsAs put faults a c (SessionEnds h blocks) result
   ends_short a b c waited waits h blocks result none told finished =
       ends_with put faults a c (SessionEnds h blocks) ends.NoMemory (told.0 ++ end_line ends.NoMemory) result
-      (told.0, subst (AreFirstLines told.0) (sym (text_is_printed h (Some blocks) [] ∙ append-nil (session_lines h blocks))) told.1, refl)
+      (told.0, subst (AreFirstLines told.0) (sym (text_is_printed h 0 (Some blocks) [] ∙ append-nil (session_lines h blocks))) told.1, refl)
       (finishes_told put faults a b c told.0 waits (end_line ends.NoMemory) 8 result (subst (λ (l : List ℕ). Tells put faults a b (l ++ told.0) waits) none told.2) finished)
 
   pub ends_failed : (a b : K) (waited waits : List ℕ) (h : History) (blocks : List (List ℕ)) → waited ≡ []
       → TellsLines put faults a b {T = Unit {0}} waited waits (session_lines h blocks) (Err Failed) → EndsAs put faults a b (SessionEnds h blocks) 5
   ends_failed a b waited waits h blocks none told =
       ends_with put faults a b (SessionEnds h blocks) Done (session_lines h blocks ++ end_line Done) 5
-      (sym (text_is_printed h (Some blocks) (end_line Done)))
+      (sym (text_is_printed h 0 (Some blocks) (end_line Done)))
       (inr (refl, part_of_more put faults a b (session_lines h blocks) (end_line Done) (subst (λ (l : List ℕ). PutsPart put faults a b (l ++ session_lines h blocks)) none told)))

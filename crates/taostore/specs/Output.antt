@@ -12,7 +12,7 @@ use Rattle.taostore.specs.declared.faults.StreamFault.TheVariants.{Failed, NoMem
 
 -- the lines of a session that was played to its end, as they are told
 abbrev pub session_lines : History → List (List ℕ) → List ℕ
-session_lines h blocks = (opening_lines h.opening ++ lines_before h (length h.events)) ++ closing_lines (Some blocks)
+session_lines h blocks = (opening_lines h.opening ++ lines_before h 0 (length h.events)) ++ closing_lines (Some blocks)
 
 -- the bytes of the pieces, one after another
 abbrev pub joined : List (Bor (List ℕ)) → List ℕ

@@ -51,9 +51,9 @@ fn tell_events<K: Sink>(
     waiting: &mut Image,
 ) -> Result<(), StreamFault>
     requires { FollowsLawfully history.now.history.opening (reverse history.now.history.events) }
-    ensures { TellsLines K.put K.faults sink.old sink.new waiting.old waiting.new (lines_before history.now.history (length history.now.history.events)) result }
+    ensures { TellsLines K.put K.faults sink.old sink.new waiting.old waiting.new (lines_before history.now.history 0 (length history.now.history.events)) result }
 {
-    let mut printer = Printer::new(alloc, history)?;
+    let mut printer = Printer::new(alloc, history, 0)?;
     for _ in 0..printer.left() {
         tell_event(&mut printer, sink, waiting)?;
     }
@@ -66,7 +66,7 @@ fn tell_event<K: Sink>(
     waiting: &mut Image,
 ) -> Result<(), StreamFault>
     requires { printer.old.place < length printer.old.history.events }
-    ensures lines { TellsLines K.put K.faults sink.old sink.new waiting.old waiting.new (lines_at printer.old.history printer.old.place) result }
+    ensures lines { TellsLines K.put K.faults sink.old sink.new waiting.old waiting.new (lines_at printer.old.history printer.old.again printer.old.place) result }
     ensures next { OnOk result (printer.new ≡ record printer.old { place = printer.old.place + 1 }) }
 {
     printer.print_next(waiting)?;

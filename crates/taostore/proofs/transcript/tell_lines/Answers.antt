@@ -22,7 +22,7 @@ returns-in_err-tell_events g c =
     let put = g.K.Sink.put in let faults = g.K.Sink.faults in
     let h = c.args.history.now.history in
     let opening = opening_lines h.opening in
-    let events = lines_before h (length h.events) in
+    let events = lines_before h 0 (length h.events) in
     let closing = closing_lines (Some c.args.blocks.now) in
     let fault = c.in_err-tell_events.field-0.0 in
     let r = c.from_residual-in_err-tell_events in
@@ -39,8 +39,8 @@ returns g c =
     let put = g.K.Sink.put in let faults = g.K.Sink.faults in
     let h = c.args.history.now.history in
     let opening = opening_lines h.opening in
-    let events = lines_before h (length h.events) in
-    let whole = more_lines opening events (lines_are_whole.opening h.opening) (each_lines (lines_at h) (lines_are_whole.event h) (range_with_len 0 (length h.events))) in
+    let events = lines_before h 0 (length h.events) in
+    let whole = more_lines opening events (lines_are_whole.opening h.opening) (each_lines (lines_at h 0) (lines_are_whole.event h 0) (range_with_len 0 (length h.events))) in
     let opened = waits_more put faults c.args.sink.now c.args.waiting.now c.print_opening.new.out opening c.in_ok-print_opening.ensures.ok in
     let told = tells_then put faults c.args.sink.now c.args.sink.now c.tell_events.new.sink c.args.waiting.now c.print_opening.new.out c.tell_events.new.waiting
     opening events opened c.in_ok-tell_events.ensures in

@@ -6,4 +6,4 @@ use Rattle.tao_trace.proofs.tables.Tables.push_arrival.Goals as goal
 
 pub returns-clause-ok : goal.returns-clause-ok
 returns-clause-ok c = two_pieces _ _ _ _ _ _ c.in_ok-push_arrive.ensures.ok c.in_ok-line_words.ensures.ok
-    (arrive_text _ _ _ _ _ _ _ _ _ _ (fit_of _ _ _ _ _ c.self.view_is c.self.invariant) c.requires.next (let len = c.self.inside.told.ok.0 in let is = c.len-arrival.ensures in omega arith) (c.from.ensures ∙ c.leaf_for.ensures))
+    (arrive_text _ c.args.self.now.again _ _ _ _ _ _ _ _ _ (fit_of _ _ _ _ _ c.self.view_is c.self.invariant.arrivals) c.requires.next (let len = c.self.inside.told.ok.0 in let is = c.len-arrival.ensures in omega arith) (c.from.ensures ∙ c.leaf_for.ensures))

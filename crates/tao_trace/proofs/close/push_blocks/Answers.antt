@@ -1,7 +1,0 @@
-use Rattle.std.proofs.Common.{arith}
-use Rattle.tao_model.specs.Transcript.{block_line}
-use Rattle.tao_trace.proofs.Ranges.{appended_more}
-use Rattle.tao_trace.proofs.close.push_blocks.Goals as goal
-
-pub loop-id-preserved : goal.loop-id-preserved
-loop-id-preserved c = appended_more (block_line c.args.blocks.now) _ _ _ 0 c.loop-id.id c.loop-id.id (omega arith) c.in_ok-print_block.ensures.ok c.loop-id.invariant
