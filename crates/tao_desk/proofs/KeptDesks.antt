@@ -11,8 +11,6 @@ use Rattle.tao_model.specs.Events.{arrived, dones, issues, word_at}
 use Rattle.tao_model.specs.Lawful.{OwesNone, FollowsLawfully}
 use Rattle.tao_model.specs.OneMore.{with_one_more}
 use Rattle.tao_tables.proofs.ProxySteps.{owes_in_turn}
-use Rattle.tao_model.specs.OneMore.{with_one_more}
-use Rattle.tao_tables.proofs.ProxySteps.{owes_in_turn}
 use Rattle.tao_model.proofs.Stays.{newest_first}
 use Rattle.tao_images.specs.Answers.{with_event}
 use Rattle.tao_desk.specs.Inside.{IsDesk}

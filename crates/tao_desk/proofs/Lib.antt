@@ -5,4 +5,7 @@ pub mod Issues
 pub mod KeptDesks
 pub mod LoadParts
 pub mod Replied
+pub mod Scanned
+pub mod SeenEntries
 pub mod SoundDesks
+pub mod Visited

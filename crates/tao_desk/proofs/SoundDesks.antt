@@ -31,7 +31,7 @@ node_entries : (s : Shape) (entries : List Entry) → AreInForm s entries → Ar
 node_entries s entries form = record { few = form.few; each = λ k d low. (form.ids k d low, form.values k d low) }
 
 -- the entries of a held node
-held_entries : (st : HoldingsState) (w : ℕ) → 1 ≤ w → AreForms st → is_held st w ≡ true → AreNodeEntries st.shape (contents_in st w)
+pub held_entries : (st : HoldingsState) (w : ℕ) → 1 ≤ w → AreForms st → is_held st w ≡ true → AreNodeEntries st.shape (contents_in st w)
 held_entries st w low forms there =
     subst (λ (t : Bool). AreNodeEntries st.shape (cond t st.stash (entries_of (slice_index_or st.nodes w None)))) (sym (ne_eqb w 0 (λ same. omega arith)))
     (either (slice_index_or st.nodes w None) (forms.nodes w) there)

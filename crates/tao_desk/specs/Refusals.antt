@@ -1,12 +1,12 @@
 -- Why calls of a desk are refused: the first cause that applies, by the key and the record alone.
-use Rattle.std.specs.Prelude.{ℕ, ◌==◌, nat_lt, not, List, length, reverse, Option, Some, None, if◌then◌else◌}
+use Rattle.std.specs.Prelude.{ℕ, ◌-◌, ◌==◌, ◌&&◌, nat_lt, not, List, length, reverse, Option, Some, None, if◌then◌else◌}
 use Rattle.std.specs.List.{list_any}
 use Rattle.std.specs.Option.{option_map}
 use Rattle.tao_base.specs.declared.calls.Op.{Op}
 use Rattle.tao_base.specs.declared.calls.Op.TheVariants.{Read, Write, Pad}
 use Rattle.tao_base.specs.Limits.{Shape, session_limit}
 use Rattle.tao_base.specs.Session.{History}
-use Rattle.tao_model.specs.Events.{arrived, has_fault, is_under_way, is_outstanding}
+use Rattle.tao_model.specs.Events.{arrived, dones, issues, acks, has_fault, is_under_way, is_outstanding}
 use Rattle.tao_images.specs.Answers.{fetch_refusal, leaf_refusal}
 use Rattle.tao_images.specs.declared.nodes.Refused.{Refused}
 use Rattle.tao_images.specs.declared.nodes.Refused.TheVariants as refused
@@ -18,6 +18,8 @@ use Rattle.tao_desk.specs.declared.faults.DoneFault.{DoneFault}
 use Rattle.tao_desk.specs.declared.faults.DoneFault.TheVariants as answering
 use Rattle.tao_desk.specs.declared.faults.AckFault.{AckFault}
 use Rattle.tao_desk.specs.declared.faults.AckFault.TheVariants as acknowledging
+use Rattle.tao_desk.specs.declared.faults.ScanFault.{ScanFault}
+use Rattle.tao_desk.specs.declared.faults.ScanFault.TheVariants as scanning
 
 -- a first value for each block, each as long as a block
 abbrev pub start_refusal : Shape → List (List ℕ) → Option StartFault
@@ -30,7 +32,7 @@ op_refusal s (Read id) = if nat_lt id s.n then None else Some arriving.NoBlock
 op_refusal s (Write id value) = if nat_lt id s.n then (if length value == s.b then None else Some arriving.BlockLength) else Some arriving.NoBlock
 op_refusal s Pad = None
 
--- the session is over; it has all its arrivals, or so few words of the tape are left; or else what is wrong with the operation
+-- the session is over; it has all its arrivals, or the tape, of which so many words are left, has none; or else what is wrong with the operation
 abbrev pub arrive_refusal : ℕ → History → Op → Option ArriveFault
 arrive_refusal left h op =
     if has_fault (reverse h.events) then Some arriving.Down
@@ -56,3 +58,10 @@ scan_refusal key h leaf path = if has_fault (reverse h.events) then Some answeri
 abbrev pub ack_refusal : History → ℕ → Option AckFault
 ack_refusal h version =
     if has_fault (reverse h.events) then Some acknowledging.Down else (if is_outstanding (reverse h.events) version then None else Some acknowledging.Stranger)
+
+-- the session is over, or something is under way: fetches that aren't done, or write-backs that aren't acknowledged
+abbrev pub begin_refusal : History → Option ScanFault
+begin_refusal h =
+    if has_fault (reverse h.events) then Some scanning.Down
+    else (if (dones (reverse h.events) == arrived (reverse h.events)) && (acks (reverse h.events) == issues (reverse h.events)) then None
+    else Some (scanning.Busy (arrived (reverse h.events) - dones (reverse h.events)) (issues (reverse h.events) - acks (reverse h.events))))

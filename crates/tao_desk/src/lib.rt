@@ -4,7 +4,9 @@
 mod ask;
 mod desk;
 mod faults;
+mod seeing;
 
 pub use ask::Ask;
 pub use desk::Desk;
+pub use desk::scan::Scan;
 pub use faults::{AckFault, AgainFault, ArriveFault, DoneFault, ScanFault, StartFault};

@@ -68,7 +68,7 @@ fn is_due(processor: &Processor) -> bool
     processor.dones() == (u64::from(processor.issues()) + 1) * u64::from(processor.params().k())
 }
 
-fn cause_of(fetch: u64, refused: Refused) -> Cause
+pub(super) fn cause_of(fetch: u64, refused: Refused) -> Cause
     ensures { result ≡ cause_of_refusal fetch refused }
 {
     match refused {
@@ -86,7 +86,7 @@ fn cause_of(fetch: u64, refused: Refused) -> Cause
     }
 }
 
-fn fault_of(refused: Refused) -> DoneFault
+pub(super) fn fault_of(refused: Refused) -> DoneFault
     ensures { result ≡ done_fault refused }
 {
     match refused {
