@@ -9,5 +9,6 @@ pub mod Starts
 pub mod Steps
 pub mod Texts
 pub mod ToldRecord
+pub mod Traces
 pub mod WholeLines
 pub mod WholeText

@@ -1,5 +1,5 @@
 -- The write-backs that are kept, and the line of one that is sent again. The events `es` are newest first.
-use Rattle.std.proofs.Common.{◌≡◌, ℕ, ◌+◌, ◌-◌, ◌<◌, ◌≤◌, nat_le, Bool, true, false, List, [], ◌∷◌, ◌++◌, codes, cond, length, get_or, refl, sym, ap, ◌∙◌, subst, arith, inl, inr, ◌⊎◌}
+use Rattle.std.proofs.Common.{◌≡◌, ℕ, ◌+◌, ◌-◌, ◌<◌, ◌≤◌, List, [], ◌∷◌, ◌++◌, codes, cond, length, get_or, refl, sym, ap, ◌∙◌, subst, arith, inl, inr, ◌⊎◌}
 use Rattle.std.proofs.lemmas.Bool.{eq-eqb, ne_eqb, cases_lt, le-leb, lt-leb}
 use Rattle.std.specs.List.{count_by}
 use Rattle.std.proofs.lemmas.List.Recursion.{is_count_by}
@@ -12,7 +12,6 @@ use Rattle.tao_base.specs.Lines.{words_line}
 use Rattle.tao_model.specs.Events.{issues, acks}
 use Rattle.tao_model.specs.Trace.{nodes_in, again_of}
 use Rattle.tao_model.specs.Transcript.{again_line, again_before, acks_in}
-use Rattle.tao_model.specs.Lawful.{FollowsLawfully}
 use Rattle.tao_trace.specs.Printing.{events_before, sent_once}
 use Rattle.tao_trace.specs.Tables.{is_ack, IsSent, AreSent, FitSent, IsNext}
 use Rattle.tao_trace.specs.declared.tables.Sent.{Sent}

@@ -31,7 +31,7 @@ leaf_block : (o : Opening) (es : List Event) (client : ℕ) (op : Op) (word bloc
 leaf_block o es client op word block true is f h = h is
 leaf_block o es client op word block false is f h = (after_arrive o es client op word f).leaf_of_word is
 
-leaf_is : (o : Opening) (es : List Event) (client : ℕ) (op : Op) (word : ℕ) → FollowsLawfully o (Arrive client op word ∷ es)
+pub leaf_is : (o : Opening) (es : List Event) (client : ℕ) (op : Op) (word : ℕ) → FollowsLawfully o (Arrive client op word ∷ es)
     → fetched_leaf o (Arrive client op word ∷ es) (arrived es) ≡ leaf_of o.shape.l (word_fetched o es op word)
 leaf_is o es client (Read id) word f = leaf_block o es client (Read id) word id (real_now es (Read id)) refl f (λ real. (after_arrive o es client (Read id) word f).leaf_of_block id (eq-eqb id id refl) real)
 leaf_is o es client (Write id value) word f = leaf_block o es client (Write id value) word id (real_now es (Write id value)) refl f (λ real. (after_arrive o es client (Write id value) word f).leaf_of_block id (eq-eqb id id refl) real)

@@ -3,6 +3,8 @@ use Rattle.std.specs.Prelude.{◌≡◌, ℕ, ◌+◌, ◌-◌, List, [], ◌∷
 use Rattle.std.specs.List.{flat_map, range_with_len}
 use Rattle.tao_base.specs.declared.session.Event.{Event}
 use Rattle.tao_base.specs.Session.{Opening, History}
+use Rattle.tao_model.specs.declared.trace.Request.{Request}
+use Rattle.tao_model.specs.Trace.{requests}
 use Rattle.tao_model.specs.Transcript.{event_lines, again_before, acks_in, opening_lines, closing_lines, transcript}
 
 -- a record, how many of its events were printed, and how many of its last acknowledgements are of stores that were sent again
@@ -22,6 +24,10 @@ printed t = events_before t.history t.place
 -- the printer behind its next event
 abbrev pub gone_on : PrinterState → PrinterState
 gone_on t = record t { place = t.place + 1 }
+
+-- these are the requests of the events that were gone over
+abbrev pub IsTraced : PrinterState → List Request → Type 0
+IsTraced t trace = trace ≡ requests t.history.opening (printed t)
 
 -- how many of the acknowledgements are of stores that were sent once
 abbrev pub sent_once : History → ℕ → ℕ

@@ -103,6 +103,10 @@ NextOf t e = IsNext t.history t.place e
 abbrev pub IsDoneNext : PrinterState → ℕ → Type 0
 IsDoneNext t arrival = (taken : List Bucket) × NextOf t (Done arrival taken)
 
+-- an arrival with this operation and this word is the next event
+abbrev pub IsArrivalNext : PrinterState → Op → ℕ → Type 0
+IsArrivalNext t op word = (client : ℕ) × NextOf t (Arrive client op word)
+
 -- ---- one more arrival
 
 -- the answer to an operation, where a pad has none

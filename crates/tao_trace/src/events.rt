@@ -74,13 +74,6 @@ impl<'a> Tables<'a> {
         }
     }
 
-    fn next_event(&self) -> &'a Event
-        requires { self.now.place < length self.now.history.events }
-        ensures { NextOf self.now result.now }
-    {
-        &self.history.events()[self.place]
-    }
-
     fn push_arrival(&self, out: &mut Image, client: u32, op: &Op, word: u32) -> Result<(), NoMemory>
         requires next { NextOf self.now (Arrive client op.now word) }
         requires range { IsInRange self.now.history.opening.shape op.now }

@@ -43,6 +43,21 @@ fn push_op(out: &mut Image, op: &Op) -> Result<(), NoMemory>
     }
 }
 
+// The start of the line of a store: its version and its first nonce.
+pub(crate) fn begin_store(
+    out: &mut Image,
+    word: &str,
+    version: u32,
+    nonce: u64,
+) -> Result<(), NoMemory>
+    ensures ok { OnOk result (out.new ≡ out.old ++ ((word.now ++ spaced version) ++ spaced nonce)) }
+    ensures err { OnErr result (Extends out.old out.new) }
+{
+    begin_line(out, word)?;
+    push_number(out, u64::from(version))?;
+    push_number(out, nonce)
+}
+
 #[tactic(auto, unfolding(tao_base::specs::Lines::words_line))]
 pub(crate) fn push_store(
     out: &mut Image,
@@ -54,9 +69,7 @@ pub(crate) fn push_store(
     ensures ok { OnOk result (out.new ≡ out.old ++ words_line word.now (version ∷ nonce ∷ nodes_in buckets.now)) }
     ensures err { OnErr result (Extends out.old out.new) }
 {
-    begin_line(out, word)?;
-    push_number(out, u64::from(version))?;
-    push_number(out, nonce)?;
+    begin_store(out, word, version, nonce)?;
     push_nodes(out, buckets)?;
     end_line(out)
 }

@@ -227,6 +227,14 @@ impl<'a> Tables<'a> {
         self.place = self.next_place();
     }
 
+    /// The next event.
+    pub(crate) fn next_event(&self) -> &'a Event
+        requires { self.now.place < length self.now.history.events }
+        ensures { NextOf self.now result.now }
+    {
+        &self.history.events()[self.place]
+    }
+
     /// The place behind the next event.
     pub(crate) fn next_place(&self) -> usize
         requires { self.now.place < length self.now.history.events }

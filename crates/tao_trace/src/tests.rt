@@ -5,7 +5,9 @@ ghost use Rattle.tao_model.specs.Lawful.{FollowsLawfully};
 ghost use Rattle.tao_record.specs.State.{FitDone, FitIssue};
 ghost use Rattle.tao_trace.specs.Told.{bare, told_opening, told_record, arrivals, later_events};
 
-use crate::{Printer, print_block, print_event, print_opening, print_scan};
+use crate::{
+    Printer, print_block, print_event, print_opening, print_request, print_scan, trace_of,
+};
 use std::alloc::Global;
 use std::test::Fail;
 use tao_base::{
@@ -156,11 +158,33 @@ fn one_text(alloc: Global, record_of: &Record, place: usize) -> Result<Image, No
     Ok(out)
 }
 
+// The lines of the trace, request by request.
+fn trace_text(
+    alloc: Global,
+    record_of: &Record,
+    again: &[u32],
+    scanned: bool,
+) -> Result<Image, NoMemory>
+    requires { FollowsLawfully record_of.now.history.opening (reverse record_of.now.history.events) }
+{
+    let trace = trace_of(alloc, record_of, again, scanned)?;
+    let mut out = Image::new(alloc);
+    for request in trace.as_slice() {
+        print_request(&mut out, request)?;
+    }
+    Ok(out)
+}
+
 const TEXT: &str =
     "tree 1 1 4 2 3\nform 2\nfirst 1 61616161\nload 3\narrive 0 0 write 0 62626262\nfetch 0 0\narrive 1 1 read 0\nfetch 1 1\narrive 2 2 pad\nfetch 2 0\ndone 1\ndone 2\ndone 0\nreply 0 0 00000000\nreply 1 1 62626262\nstore 1 4 1 2 3\nack 1\narrive 3 0 read 1\nfetch 3 1\nrefused 3 3 damaged Tag\nscan\nblock 0 62626262\nblock 1 61616161\n";
 
 const SENT_AGAIN: &str =
     "tree 1 1 4 2 3\nform 2\nfirst 1 61616161\nload 3\narrive 0 0 write 0 62626262\nfetch 0 0\narrive 1 1 read 0\nfetch 1 1\narrive 2 2 pad\nfetch 2 0\ndone 1\ndone 2\ndone 0\nreply 0 0 00000000\nreply 1 1 62626262\nstore 1 4 1 2 3\nagain 1 4 1 2 3\nack 1\narrive 3 0 read 1\nfetch 3 1\nrefused 3 3 damaged Tag\nscan\nblock 0 62626262\nblock 1 61616161\n";
+
+const REQUESTS: &str = "load 3\nfetch 0 0\nfetch 1 1\nfetch 2 0\nstore 1 4 1 2 3\nfetch 3 1\n";
+
+const REQUESTS_AT_CLOSE: &str =
+    "load 3\nfetch 0 0\nfetch 1 1\nfetch 2 0\nstore 1 4 1 2 3\nfetch 3 1\nagain 1 4 1 2 3\nscan\n";
 
 const DONE: &str = "done 0\nreply 0 0 00000000\nreply 1 1 62626262\n";
 
@@ -183,5 +207,17 @@ fn one_event(rt: HostRuntime) -> Result<(), Fail> {
     let record_of = told(alloc)?;
     let out = one_text(alloc, &record_of, 5)?;
     assert_eq!(rt; out.as_slice(), DONE.as_bytes());
+    Ok(())
+}
+
+// not closed; and closed, with a store sent again, where two of the versions weren't issued
+#[test]
+fn requests_of_a_record(rt: HostRuntime) -> Result<(), Fail> {
+    let alloc = rt.alloc();
+    let record_of = told(alloc)?;
+    let open = trace_text(alloc, &record_of, &[], false)?;
+    assert_eq!(rt; open.as_slice(), REQUESTS.as_bytes());
+    let closed = trace_text(alloc, &record_of, &[2, 1, 0], true)?;
+    assert_eq!(rt; closed.as_slice(), REQUESTS_AT_CLOSE.as_bytes());
     Ok(())
 }
