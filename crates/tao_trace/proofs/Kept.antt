@@ -25,6 +25,11 @@ pub row_at : (o : Opening) (es : List Event) (told : List Told) (slots : List Sl
     → (i : ℕ) (row : Told) → i < length told → row ≡ get_or told i row → IsTold o es i row
 row_at o es told slots flags t i row h at = subst (IsTold o es i) (sym at) (t.each i row h)
 
+-- the row of an arrival
+pub told_at : (h : History) (place i : ℕ) (told : List Told) (slots : List Slot) (flags : List Bool) (row : Told) → Fit h place told slots flags
+    → i < arrived (events_before h place) → row ≡ get_or told i row → IsTold h.opening (events_before h place) i row
+told_at h place i told slots flags row f low at = row_at h.opening (events_before h place) told slots flags f.tables i row (let len = f.tables.arrivals in omega (arith, len, low)) at
+
 pub slot_at : (o : Opening) (es : List Event) (told : List Told) (slots : List Slot) (flags : List Bool) → AreTables o es told slots flags
     → (block : ℕ) (slot : Slot) → block < o.shape.n → slot ≡ get_or slots block slot → IsSlot o es block slot
 slot_at o es told slots flags t block slot h at = subst (IsSlot o es block) (sym at) (t.all block slot (let len = t.blocks in omega arith))

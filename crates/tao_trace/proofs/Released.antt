@@ -6,7 +6,7 @@ use Rattle.tao_base.specs.declared.storage.Bucket.{Bucket}
 use Rattle.tao_base.specs.declared.session.Event.{Event}
 use Rattle.tao_base.specs.declared.session.Event.TheVariants.{Done}
 use Rattle.tao_base.specs.Limits.{session_limit}
-use Rattle.tao_base.specs.Session.{Opening}
+use Rattle.tao_base.specs.Session.{Opening, History}
 use Rattle.tao_model.specs.Events.{arrived, is_done}
 use Rattle.tao_model.specs.Replies.{released}
 use Rattle.tao_model.specs.Lawful.{FollowsLawfully}
@@ -15,7 +15,11 @@ use Rattle.tao_model.proofs.Growth.{IsLeading, leading_is, leading_grows}
 use Rattle.tao_model.proofs.LawfulToWhole.{arrived_within}
 use Rattle.tao_sequence.specs.Release.{IsReleased}
 use Rattle.tao_sequence.proofs.Flags.{raised}
-use Rattle.tao_trace.specs.Tables.{AreFlags}
+use Rattle.tao_trace.specs.Printing.{events_before}
+use Rattle.tao_trace.specs.Tables.{AreFlags, Fit}
+use Rattle.tao_trace.specs.declared.tables.Told.{Told}
+use Rattle.tao_trace.specs.declared.tables.Slot.{Slot}
+use Rattle.tao_trace.proofs.Following.{front_follows}
 
 -- an arrival that may be done has a flag
 pub has_flag : (o : Opening) (es : List Event) (arrival : ℕ) (taken : List Bucket) (flags : List Bool) → AreFlags o es flags → FollowsLawfully o (Done arrival taken ∷ es) → arrival < length flags
@@ -56,3 +60,11 @@ released_is o es flags r f are is =
       below = λ i small. sym (are.each i) ∙ is.below i small;
       next = λ early. sym (are.each r) ∙ is.stops;
     }
+
+-- what the tables say is released
+pub released_told : (h : History) (place : ℕ) (told : List Told) (slots : List Slot) (flags : List Bool) (r : ℕ) → Fit h place told slots flags → IsReleased flags r
+    → (r ≡ released (events_before h place)) × (r ≤ arrived (events_before h place))
+released_told h place told slots flags r f is =
+    let same = released_is h.opening (events_before h place) flags r (front_follows h place f.follows) f.tables.dones is in
+    let within = (leading_is (is_done (events_before h place)) (arrived (events_before h place))).within in
+    (same, omega (arith, same, within))

@@ -1,3 +1,4 @@
+pub mod Counts
 pub mod Printing
 pub mod Tables
 pub mod Told

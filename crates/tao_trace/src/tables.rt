@@ -118,7 +118,7 @@ impl<'a> Tables<'a> {
     }
 
     /// Whether an arrival of this operation is real.
-    fn is_real(&self, op: &Op) -> bool
+    pub(crate) fn is_real(&self, op: &Op) -> bool
         requires { IsInRange self.now.history.opening.shape op.now }
         ensures { result ≡ real_now (printed self.now) op.now }
     {

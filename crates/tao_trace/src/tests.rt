@@ -6,7 +6,7 @@ ghost use Rattle.tao_record.specs.State.{FitDone, FitIssue};
 ghost use Rattle.tao_trace.specs.Told.{bare, told_opening, told_record, arrivals, later_events};
 
 use crate::{
-    Printer, print_block, print_event, print_opening, print_request, print_scan, trace_of,
+    Printer, Summary, print_block, print_event, print_opening, print_request, print_scan, trace_of,
 };
 use std::alloc::Global;
 use std::test::Fail;
@@ -219,5 +219,22 @@ fn requests_of_a_record(rt: HostRuntime) -> Result<(), Fail> {
     assert_eq!(rt; open.as_slice(), REQUESTS.as_bytes());
     let closed = trace_text(alloc, &record_of, &[2, 1, 0], true)?;
     assert_eq!(rt; closed.as_slice(), REQUESTS_AT_CLOSE.as_bytes());
+    Ok(())
+}
+
+// The second arrival is fake and the third a pad. The last one isn't answered, so four times 98 is the sum.
+#[test]
+fn numbers_of_a_record(rt: HostRuntime) -> Result<(), Fail> {
+    let alloc = rt.alloc();
+    let record_of = told(alloc)?;
+    let numbers = Summary::of(alloc, &record_of)?;
+    let expected = Summary {
+        arrivals: 4,
+        real: 2,
+        stores: 1,
+        buckets: 3,
+        sum: 392,
+    };
+    assert_eq!(rt; numbers, expected);
     Ok(())
 }
