@@ -13,3 +13,5 @@ pub mod LoadedTrees
 pub mod ShownSteps
 pub mod PlacedSteps
 pub mod FlaggedMoves
+pub mod LoadParts
+pub mod Starts

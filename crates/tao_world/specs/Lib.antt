@@ -1,5 +1,7 @@
 pub mod State
+pub mod Opening
 pub mod Shows
+pub mod World
 pub mod Changes
 pub mod Laws
 pub mod Worked
