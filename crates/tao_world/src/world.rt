@@ -18,7 +18,7 @@ use tao_tape::ScriptTape;
 use tao_text::Script;
 use tao_tree::Tree;
 
-/// A desk and its server, and the requests under way between them. Whatever steps it plays, the desk is never down.
+/// A desk and its server, and the requests under way between them. It opens a session, and plays no step yet.
 #[derive(Drop)]
 pub struct World {
     alloc: Global,
