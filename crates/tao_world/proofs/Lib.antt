@@ -15,3 +15,5 @@ pub mod PlacedSteps
 pub mod FlaggedMoves
 pub mod LoadParts
 pub mod Starts
+pub mod StoreMoves
+pub mod FetchMoves

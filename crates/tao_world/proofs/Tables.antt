@@ -80,6 +80,14 @@ left_set flags place low = either (get_or flags place false) (sum_by-set (λ x. 
     either true sum = omega arith
     either false sum = omega arith
 
+-- of flags of which one isn't set, one is left
+pub some_left : (flags : List Bool) (place : ℕ) → place < length flags → is_set_at flags place ≡ false → 0 < count_by not flags
+some_left flags place low unset = either (get_or flags place false) unset (sum_by-set (λ x. cond (not x) 1 0) flags place true false low)
+  where
+    either : (t : Bool) → t ≡ false → count_by not (set flags place true) + cond (not t) 1 0 ≡ count_by not flags + 0 → 0 < count_by not flags
+    either true on sum = absurd (true≢false on)
+    either false on sum = omega arith
+
 pub none_left : (n : ℕ) → count_by not (replicate n false) ≡ n
 none_left n = sum_by-replicate (λ x. cond (not x) 1 0) n false ∙ omega arith
 
@@ -129,3 +137,10 @@ module _ (len : ℕ) (image : List ℕ) (i : ℕ) (bucket : List ℕ) (long : le
       either : (j < i) ⊎ (i ≤ j) → take len (drop (j * len) (bucket_put len image i bucket)) ≡ take len (drop (j * len) image)
       either (inl less) = put_before j (omega arith)
       either (inr more) = put_behind j (omega (arith, other))
+
+-- they are as many as before
+pub put_len : (len : ℕ) (image : List ℕ) (i : ℕ) (bucket : List ℕ) → length bucket ≡ len → i * len + len ≤ length image → length (bucket_put len image i bucket) ≡ length image
+put_len len image i bucket long within =
+    let first = length-take-le (i * len) image (omega arith) in
+    let rest = length-drop (i * len + len) image in
+    length-append (take (i * len) image ++ bucket) (drop (i * len + len) image) ∙ ap (λ n. n + length (drop (i * len + len) image)) (length-append (take (i * len) image) bucket) ∙ omega arith

@@ -6,3 +6,4 @@ pub mod Changes
 pub mod Laws
 pub mod Worked
 pub mod Steps
+pub mod Moving

@@ -18,6 +18,9 @@ use tao_tape::ScriptTape;
 use tao_text::Script;
 use tao_tree::Tree;
 
+mod fetching;
+mod storing;
+
 /// A desk and its server, and the requests under way between them. It opens a session, and plays no step yet.
 #[derive(Drop)]
 pub struct World {
@@ -59,10 +62,7 @@ impl World {
             tree,
             fetches: Vec::new(alloc),
             stores,
-            spare: PathRoom {
-                read: Vec::new(alloc),
-                bytes: Vec::new(alloc),
-            },
+            spare: PathRoom::none(alloc),
         })
     }
 

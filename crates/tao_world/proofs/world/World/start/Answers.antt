@@ -1,5 +1,5 @@
-use Rattle.std.proofs.Common.{List, [], ◌∷◌, ◌++◌, Option, Bool, ℕ, None, sym, ap, ◌∙◌, subst}
-use Rattle.tao_world.specs.World.{IsWorld, IsLeftBy}
+use Rattle.std.proofs.Common.{List, [], ◌∷◌, ◌++◌, Option, None, sym, ap, ◌∙◌, subst}
+use Rattle.tao_world.specs.World.{RoomState, IsWorld, IsLeftBy}
 use Rattle.tao_world.specs.State.{Reading, Sending}
 use Rattle.tao_world.proofs.Starts.{is_world, left_by_none, in_step}
 use Rattle.tao_world.proofs.world.World.start.Goals as goal
@@ -9,8 +9,7 @@ invariant_of-result c =
     let w = is_world c.args.script.now c.in_ok-desk.desk c.in_ok-tree.tree c.in_ok-desk.ensures.started c.in_ok-desk.ensures.sound c.in_ok-tree.ensures in
     let w1 = subst (λ (fetches : List (Option Reading)). IsWorld (record { desk = c.in_ok-desk.desk; tree = c.in_ok-tree.tree; fetches = fetches; stores = None ∷ [] }) (record { read = []; bytes = [] })) (sym c.new.ensures.items) w in
     let w2 = subst (λ (stores : List (Option Sending)). IsWorld (record { desk = c.in_ok-desk.desk; tree = c.in_ok-tree.tree; fetches = c.new.result.items; stores = stores }) (record { read = []; bytes = [] })) (sym (c.push_reserved.ensures.items ∙ ap (λ (xs : List (Option Sending)). xs ++ None ∷ []) c.in_ok-stores.ensures.items)) w1 in
-    let w3 = subst (λ (read : List Bool). IsWorld (record { desk = c.in_ok-desk.desk; tree = c.in_ok-tree.tree; fetches = c.new.result.items; stores = c.push_reserved.new.self.items }) (record { read = read; bytes = [] })) (sym c.new-2.ensures.items) w2 in
-    subst (λ (bytes : List ℕ). IsWorld (record { desk = c.in_ok-desk.desk; tree = c.in_ok-tree.tree; fetches = c.new.result.items; stores = c.push_reserved.new.self.items }) (record { read = c.new-2.result.items; bytes = bytes })) (sym c.new-3.ensures.items) w3
+    subst (λ (spare : RoomState). IsWorld (record { desk = c.in_ok-desk.desk; tree = c.in_ok-tree.tree; fetches = c.new.result.items; stores = c.push_reserved.new.self.items }) spare) (sym c.none.ensures) w2
 
 pub returns-clause-left : goal.returns-clause-left
 returns-clause-left c =

@@ -1,0 +1,55 @@
+//! Moves of stores: their nodes are applied, and they are acknowledged.
+ghost use Rattle.std.specs.Prelude.{◌≡◌, ℕ, ◌<◌, ◌∷◌, not, List, length, count_by, slice_index, slice_set, Some, IsSome};
+ghost use Rattle.tao_base.specs.Links.{FitsLinks};
+ghost use Rattle.tao_images.specs.Paths.{piece};
+ghost use Rattle.tao_schedule.specs.Moves.{Move, Applies, Acknowledges};
+ghost use Rattle.tao_tree.specs.Nodes.{applied};
+ghost use Rattle.tao_world.specs.Changes.{with_put};
+ghost use Rattle.tao_world.specs.Moving.{sending_of, store_at, with_applied, HasAcknowledged};
+ghost use Rattle.tao_world.specs.State.{row_at};
+ghost use Rattle.tao_world.specs.World.{IsLeftBy};
+
+use crate::loading::apply_bucket;
+use crate::requests::Store;
+use crate::world::World;
+use tao_tree::Tree;
+
+impl World {
+    /// Applies node `j` of a store to the tree, perhaps again.
+    pub(crate) fn apply(&mut self, version: u32, j: usize)
+        requires { j < length (store_at self.old version).order.nodes }
+        ensures state { self.new ≡ with_applied self.old version j }
+        ensures left { (ms : List Move) → IsLeftBy ms self.old → IsLeftBy (Applies version (slice_index (store_at self.old version).order.nodes j) ∷ ms) self.new }
+    {
+        apply_node(&mut self.tree, &mut self.stores, version as usize, j);
+    }
+
+    /// Acknowledges a store of which nothing is left.
+    pub(crate) fn acknowledge(&mut self, version: u32)
+        requires store { IsSome (row_at self.old.stores version) }
+        requires none_left { (store_at self.old version).left ≡ 0 }
+        ensures changed { HasAcknowledged version self.old self.new }
+        ensures left { (ms : List Move) → IsLeftBy ms self.old → IsLeftBy (Acknowledges version ∷ ms) self.new }
+    {
+        let Ok(()) = self.desk.acked(version) else {
+            unreachable!()
+        };
+        self.stores[version as usize] = None;
+    }
+}
+
+// Applies node `j` of a store, and notes that it was put.
+fn apply_node(tree: &mut Tree, stores: &mut [Option<Store>], version: usize, j: usize)
+    requires within { j < length (sending_of (row_at stores.old version)).order.nodes }
+    requires fits { FitsLinks tree.old.shape (sending_of (row_at stores.old version)).order }
+    requires flags { length (sending_of (row_at stores.old version)).put ≡ length (sending_of (row_at stores.old version)).order.nodes }
+    requires counted { (sending_of (row_at stores.old version)).left ≡ count_by not (sending_of (row_at stores.old version)).put }
+    ensures tree { tree.new ≡ applied tree.old (sending_of (row_at stores.old version)).order.version (slice_index (sending_of (row_at stores.old version)).order.nodes j) (piece tree.old.shape (sending_of (row_at stores.old version)).order.image j) }
+    ensures stores { stores.new ≡ slice_set stores.old version (Some (with_put (sending_of (row_at stores.old version)) j)) }
+{
+    let Some(store) = &mut stores[version] else {
+        unreachable!()
+    };
+    apply_bucket(tree, &store.order, j);
+    store.set_put(j);
+}
