@@ -17,3 +17,4 @@ pub mod LoadParts
 pub mod Starts
 pub mod StoreMoves
 pub mod FetchMoves
+pub mod AdmittedPaths

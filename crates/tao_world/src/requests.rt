@@ -3,7 +3,7 @@ ghost use Rattle.std.specs.Prelude.{◌≡◌, ◌+◌, ◌*◌, ◌^◌, ◌<�
 ghost use Rattle.tao_base.specs.Limits.{bucket_len};
 ghost use Rattle.tao_base.specs.Tree.{node_at, node_count};
 ghost use Rattle.tao_tree.specs.Nodes.{bytes_at};
-ghost use Rattle.tao_world.specs.Changes.{bucket_put, with_bucket, with_put};
+ghost use Rattle.tao_world.specs.Changes.{bucket_put, with_bucket, new_sending, with_put};
 ghost use Rattle.tao_world.specs.Moving.{IsUnread};
 ghost use Rattle.tao_world.specs.World.{IsRoom};
 
@@ -122,6 +122,16 @@ impl Model for Fetch {
 }
 
 impl Fetch {
+    /// A fetch of which nothing is read.
+    pub(crate) fn new(alloc: Global, ask: Ask) -> Fetch
+        ensures { result ≡ record { arrival = ask.arrival; leaf = ask.leaf; read = []; bytes = [] } }
+    {
+        Fetch {
+            ask,
+            room: PathRoom::none(alloc),
+        }
+    }
+
     /// Reads the bucket at depth `d` of its path from the tree.
     pub(crate) fn read_from(&mut self, tree: &Tree, d: u32)
         requires leaf { self.old.leaf < 2 ^ tree.now.shape.l }
@@ -152,6 +162,18 @@ impl Model for Store {
 }
 
 impl Store {
+    /// A store of which nothing was put. The flags may be more than it has nodes.
+    pub(crate) fn new(order: Order, flags: Vec<bool>) -> Store
+        requires unset { flags.items ≡ replicate (length flags.items) false }
+        requires few { length order.nodes ≤ length flags.items }
+        ensures { result ≡ new_sending order }
+    {
+        let left = order.nodes.as_slice().len();
+        let mut put = flags;
+        put.truncate(left);
+        Store { order, put, left }
+    }
+
     #[tactic(auto, using(crate::proofs::Tables::some_left))]
     /// Notes that node `j` was put.
     pub(crate) fn set_put(&mut self, j: usize)

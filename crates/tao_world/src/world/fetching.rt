@@ -1,19 +1,28 @@
 //! Moves of fetches: operations arrive, buckets are read from the tree, and whole paths reach the desk.
-ghost use Rattle.std.specs.Prelude.{◌≡◌, ℕ, ◌+◌, ◌*◌, ◌^◌, ◌<◌, ◌≤◌, ◌⊎◌, ◌∷◌, true, false, List, length, reverse, slice_set, Some, not, ◌==◌, IsSome, IfOk, IfErr, OnOk, OnErr};
+ghost use Rattle.std.specs.Prelude.{◌≡◌, ℕ, ◌+◌, ◌*◌, ◌^◌, ◌<◌, ◌≤◌, ◌⊎◌, ◌∷◌, true, false, List, length, reverse, slice_set, Some, None, not, IfSome, ◌==◌, IsSome, IfOk, IfErr, OnOk, OnErr};
 ghost use Rattle.tao_base.specs.Limits.{bucket_len, session_limit};
+ghost use Rattle.tao_base.specs.Links.{FitsLinks, order_limit};
 ghost use Rattle.tao_base.specs.Tree.{node_at};
-ghost use Rattle.tao_model.specs.Events.{arrived};
+ghost use Rattle.tao_desk.specs.Sound.{IsSound};
+ghost use Rattle.tao_desk.specs.State.{SameStore};
+ghost use Rattle.tao_images.specs.Answers.{AddsDone, IsAnswered};
+ghost use Rattle.tao_model.specs.Events.{arrived, has_fault, is_under_way};
 ghost use Rattle.tao_model.specs.Lawful.{IsInRange};
 ghost use Rattle.tao_schedule.specs.Moves.{Move, Arrives, Serves, Completes};
+ghost use Rattle.tao_tape.specs.Tapes.{either_word};
 ghost use Rattle.tao_tree.specs.Nodes.{bytes_at};
 ghost use Rattle.tao_world.specs.Changes.{with_bucket};
-ghost use Rattle.tao_world.specs.Moving.{reading_of, fetch_at, node_of, HasRoom, IsToRead, with_read, HasServed};
+ghost use Rattle.tao_world.specs.Moving.{reading_of, fetch_at, node_of, HasRoom, IsToRead, with_read, HasServed, HasCompleted};
 ghost use Rattle.tao_world.specs.State.{is_set_at, row_at};
 ghost use Rattle.tao_world.specs.World.{IsLeftBy};
 
 use crate::requests::{Fetch, PathRoom};
 use crate::world::World;
-use tao_base::NoMemory;
+use crate::world::storing::add_store;
+use std::mem;
+use tao_base::{NoMemory, Order, Params};
+use tao_desk::Desk;
+use tao_tape::ScriptTape;
 use tao_tree::Tree;
 
 impl World {
@@ -29,6 +38,22 @@ impl World {
         self.give_room(i)?;
         self.read_bucket(i, d);
         Ok(())
+    }
+
+    /// Hands a path that was read whole to the desk. If a write-back comes out, its store is the last, and its version is told.
+    pub(crate) fn complete(&mut self, i: usize) -> Result<Option<u32>, NoMemory>
+        requires fetch { IsSome (row_at self.old.fetches i) }
+        requires whole { (d : ℕ) → d ≤ self.old.desk.history.opening.shape.l → is_set_at (fetch_at self.old i).read d ≡ true }
+        ensures changed { IfOk result (λ version. HasCompleted i version self.old self.new) }
+        ensures left { OnOk result ((ms : List Move) → IsLeftBy ms self.old → IsLeftBy (Completes i ∷ ms) self.new) }
+        ensures err { OnErr result (self.new ≡ self.old) }
+    {
+        self.stores.reserve(1)?;
+        let flags = vec![in self.alloc; false; most_nodes(self.desk.params())]?;
+        let fetch = take_fetch(&mut self.fetches, i);
+        let (order, room) = admit(&mut self.desk, fetch);
+        self.spare = room;
+        Ok(add_store(&mut self.stores, order, flags))
     }
 
     // Gives a fetch room for its path, if it has none.
@@ -92,4 +117,43 @@ fn read_row(tree: &Tree, fetches: &mut [Option<Fetch>], i: usize, d: u32)
         unreachable!()
     };
     fetch.read_from(tree, d);
+}
+
+// The most nodes that an order may have.
+fn most_nodes(p: &Params) -> usize
+    ensures { result ≡ order_limit p.now }
+{
+    let periods = (p.k() * (p.l() + 1)).max(256);
+    p.nodes().min(periods) as usize
+}
+
+// Takes a fetch out of its row.
+fn take_fetch(fetches: &mut [Option<Fetch>], i: usize) -> Fetch
+    requires { IsSome (row_at fetches.old i) }
+    ensures fetch { row_at fetches.old i ≡ Some result }
+    ensures rows { fetches.new ≡ slice_set fetches.old i None }
+{
+    let Some(fetch) = mem::replace(&mut fetches[i], None) else {
+        unreachable!()
+    };
+    fetch
+}
+
+// Hands a path to the desk, which doesn't refuse it, and gives its room back.
+fn admit(desk: &mut Desk<ScriptTape>, fetch: Fetch) -> (Option<Order>, PathRoom)
+    requires path { length fetch.bytes ≡ (desk.old.history.opening.shape.l + 1) * bucket_len desk.old.history.opening.shape }
+    requires up { has_fault (reverse desk.old.history.events) ≡ false }
+    requires under_way { is_under_way (reverse desk.old.history.events) fetch.arrival ≡ true }
+    requires answered { IsAnswered desk.old.key desk.old.history fetch.arrival fetch.bytes }
+    ensures done { AddsDone desk.old.key desk.old.history desk.new.history fetch.arrival fetch.bytes result.0 }
+    ensures fits { IfSome result.0 (FitsLinks desk.old.history.opening.shape) }
+    ensures store { SameStore desk.old desk.new }
+    ensures sound { IsSound either_word desk.new }
+    ensures room { result.1 ≡ record { read = fetch.read; bytes = fetch.bytes } }
+{
+    let Fetch { ask, room } = fetch;
+    let Ok(order) = desk.done(ask, &room.bytes) else {
+        unreachable!()
+    };
+    (order, room)
 }

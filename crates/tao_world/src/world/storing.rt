@@ -1,17 +1,19 @@
 //! Moves of stores: their nodes are applied, and they are acknowledged.
-ghost use Rattle.std.specs.Prelude.{◌≡◌, ℕ, ◌<◌, ◌∷◌, not, List, length, count_by, slice_index, slice_set, Some, IsSome};
+ghost use Rattle.std.specs.Prelude.{◌≡◌, ℕ, ◌<◌, ◌≤◌, ◌∷◌, not, List, length, count_by, slice_index, slice_set, replicate, false, vec_len, vec_capacity, Some, None, IsSome, IfSome};
+ghost use Rattle.std.specs.Option.{option_map};
 ghost use Rattle.tao_base.specs.Links.{FitsLinks};
 ghost use Rattle.tao_images.specs.Paths.{piece};
 ghost use Rattle.tao_schedule.specs.Moves.{Move, Applies, Acknowledges};
 ghost use Rattle.tao_tree.specs.Nodes.{applied};
 ghost use Rattle.tao_world.specs.Changes.{with_put};
-ghost use Rattle.tao_world.specs.Moving.{sending_of, store_at, with_applied, HasAcknowledged};
+ghost use Rattle.tao_world.specs.Moving.{sending_of, store_at, with_applied, HasAcknowledged, with_store, version_of};
 ghost use Rattle.tao_world.specs.State.{row_at};
 ghost use Rattle.tao_world.specs.World.{IsLeftBy};
 
 use crate::loading::apply_bucket;
 use crate::requests::Store;
 use crate::world::World;
+use tao_base::Order;
 use tao_tree::Tree;
 
 impl World {
@@ -52,4 +54,24 @@ fn apply_node(tree: &mut Tree, stores: &mut [Option<Store>], version: usize, j: 
     };
     apply_bucket(tree, &store.order, j);
     store.set_put(j);
+}
+
+// Adds the store of an order, if there is one, and tells its version. The flags are as many as an order may have nodes.
+pub(super) fn add_store(
+    stores: &mut Vec<Option<Store>>,
+    order: Option<Order>,
+    flags: Vec<bool>,
+) -> Option<u32>
+    requires room { vec_len stores.old < vec_capacity stores.old }
+    requires unset { flags.items ≡ replicate (length flags.items) false }
+    requires few { IfSome order (λ order. length order.nodes ≤ length flags.items) }
+    ensures stores { stores.new.items ≡ with_store order stores.old.items }
+    ensures version { result ≡ option_map version_of order }
+{
+    let Some(order) = order else {
+        return None;
+    };
+    let version = order.version;
+    stores.push_reserved(Some(Store::new(order, flags)));
+    Some(version)
 }
