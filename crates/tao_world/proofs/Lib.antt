@@ -18,3 +18,4 @@ pub mod Starts
 pub mod StoreMoves
 pub mod FetchMoves
 pub mod AdmittedPaths
+pub mod NewFetches

@@ -4,7 +4,8 @@ use Rattle.std.specs.Option.{option_map}
 use Rattle.tao_base.specs.declared.calls.Op.{Op}
 use Rattle.tao_base.specs.declared.session.Event.TheVariants.{Arrive, Acked}
 use Rattle.tao_base.specs.declared.storage.Order.{Order}
-use Rattle.tao_base.specs.Limits.{Shape, bucket_len}
+use Rattle.tao_base.specs.Limits.{Shape, bucket_len, session_limit}
+use Rattle.tao_base.specs.Session.{History}
 use Rattle.tao_base.specs.Tree.{node_at}
 use Rattle.tao_desk.specs.State.{SameStore}
 use Rattle.tao_images.specs.Answers.{with_event, AddsDone}
@@ -117,12 +118,21 @@ next_word w = either_word w.desk.source (w.desk.history.opening.shape.n + arrive
 abbrev pub words_left : WorldState → ℕ
 words_left w = either_left w.desk.source (w.desk.history.opening.shape.n + arrived (reverse w.desk.history.events))
 
--- An operation arrived with the next word of the tape. Its fetch is the last, and nothing of it is read.
-pub record HasArrived (client : ℕ) (op : Op) (old new : WorldState) : Type 0 where
-  pub word : ℕ
-  pub word_is : word ≡ next_word old
-  pub event : new.desk.history ≡ with_event old.desk.history (Arrive client op word)
+-- the session has all its arrivals
+abbrev pub IsFull : WorldState → Type 0
+IsFull w = arrived (reverse w.desk.history.events) ≡ session_limit w.desk.history.opening.shape
+
+-- a fetch of which nothing is read, for the next arrival of a session that goes on to this one
+abbrev pub new_reading : History → History → Reading
+new_reading old new = record {
+  arrival = arrived (reverse old.events);
+  leaf = fetched_leaf new.opening (reverse new.events) (arrived (reverse old.events));
+  read = [];
+  bytes = [];
+}
+
+-- An operation arrived with the next word of the tape. Its fetch is the last.
+pub record HasNewFetch (client : ℕ) (op : Op) (old new : WorldState) : Type 0 where
+  pub event : new.desk.history ≡ with_event old.desk.history (Arrive client op (next_word old))
   pub store : SameStore old.desk new.desk
-  pub leaf : ℕ
-  pub leaf_is : leaf ≡ fetched_leaf new.desk.history.opening (reverse new.desk.history.events) (arrived (reverse old.desk.history.events))
-  pub rest : new ≡ record old { desk = new.desk; fetches = old.fetches ++ Some (record { arrival = arrived (reverse old.desk.history.events); leaf = leaf; read = []; bytes = [] }) ∷ [] }
+  pub rest : new ≡ record old { desk = new.desk; fetches = old.fetches ++ Some (new_reading old.desk.history new.desk.history) ∷ [] }

@@ -3,6 +3,7 @@ ghost use Rattle.std.specs.Prelude.{◌≡◌, ℕ, ◌+◌, ◌*◌, ◌^◌, �
 ghost use Rattle.tao_base.specs.Limits.{bucket_len, session_limit};
 ghost use Rattle.tao_base.specs.Links.{FitsLinks, order_limit};
 ghost use Rattle.tao_base.specs.Tree.{node_at};
+ghost use Rattle.tao_desk.specs.declared.faults.ArriveFault.TheVariants.{SessionFull, Memory};
 ghost use Rattle.tao_desk.specs.Sound.{IsSound};
 ghost use Rattle.tao_desk.specs.State.{SameStore};
 ghost use Rattle.tao_images.specs.Answers.{AddsDone, IsAnswered};
@@ -12,7 +13,7 @@ ghost use Rattle.tao_schedule.specs.Moves.{Move, Arrives, Serves, Completes};
 ghost use Rattle.tao_tape.specs.Tapes.{either_word};
 ghost use Rattle.tao_tree.specs.Nodes.{bytes_at};
 ghost use Rattle.tao_world.specs.Changes.{with_bucket};
-ghost use Rattle.tao_world.specs.Moving.{reading_of, fetch_at, node_of, HasRoom, IsToRead, with_read, HasServed, HasCompleted};
+ghost use Rattle.tao_world.specs.Moving.{reading_of, fetch_at, node_of, HasRoom, IsToRead, with_read, HasServed, HasCompleted, IsFull, HasNewFetch, next_word, words_left};
 ghost use Rattle.tao_world.specs.State.{is_set_at, row_at};
 ghost use Rattle.tao_world.specs.World.{IsLeftBy};
 
@@ -20,12 +21,34 @@ use crate::requests::{Fetch, PathRoom};
 use crate::world::World;
 use crate::world::storing::add_store;
 use std::mem;
-use tao_base::{NoMemory, Order, Params};
-use tao_desk::Desk;
+use tao_base::{NoMemory, Op, Order, Params};
+use tao_desk::{ArriveFault, Desk};
 use tao_tape::ScriptTape;
 use tao_tree::Tree;
 
 impl World {
+    /// An operation arrives with the next word of the tape.
+    pub(crate) fn arrive(&mut self, client: u32, op: Op) -> Result<(), ArriveFault>
+        requires client { client < 64 }
+        requires range { IsInRange self.old.desk.history.opening.shape op }
+        requires word { 0 < words_left self.old }
+        ensures changed { OnOk result (HasNewFetch client op self.old self.new) }
+        ensures left { OnOk result ((ms : List Move) → IsLeftBy ms self.old → IsLeftBy (Arrives client op (next_word self.old) ∷ ms) self.new) }
+        ensures fault { IfErr result (λ fault. ((fault ≡ SessionFull) × IsFull self.old) ⊎ ((fault ≡ Memory) × ¬ IsFull self.old)) }
+        ensures err { OnErr result (self.new ≡ self.old) }
+    {
+        if self.fetches.len() >= self.desk.params().session_limit() as usize {
+            return Err(ArriveFault::SessionFull);
+        }
+        if self.fetches.reserve(1).is_err() {
+            return Err(ArriveFault::Memory);
+        }
+        let ask = self.desk.arrive(client, op)?;
+        self.fetches
+            .push_reserved(Some(Fetch::new(self.alloc, ask)));
+        Ok(())
+    }
+
     /// Reads the bucket at depth `d` of a fetch's path from the tree.
     pub(crate) fn serve(&mut self, i: usize, d: u32) -> Result<(), NoMemory>
         requires fetch { IsSome (row_at self.old.fetches i) }
