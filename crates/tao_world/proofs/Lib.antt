@@ -19,3 +19,6 @@ pub mod StoreMoves
 pub mod FetchMoves
 pub mod AdmittedPaths
 pub mod NewFetches
+pub mod MoveLists
+pub mod ReadPaths
+pub mod PutNodes

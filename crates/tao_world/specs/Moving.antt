@@ -1,5 +1,6 @@
 -- What single moves need of a world, and what they make of it.
-use Rattle.std.specs.Prelude.{◌≡◌, ℕ, ◌+◌, ◌*◌, ◌≤◌, ◌==◌, true, false, List, [], ◌∷◌, ◌++◌, length, reverse, replicate, slice_set, slice_index, Option, Some, None, is_some, if◌then◌else◌}
+use Rattle.std.specs.Prelude.{◌≡◌, ℕ, ◌+◌, ◌*◌, ◌<◌, ◌≤◌, ◌==◌, not, true, false, List, [], ◌∷◌, ◌++◌, map, filter, length, reverse, replicate, slice_set, slice_index, Option, Some, None, is_some, if◌then◌else◌}
+use Rattle.std.specs.List.{range_with_len}
 use Rattle.std.specs.Option.{option_map}
 use Rattle.tao_base.specs.declared.calls.Op.{Op}
 use Rattle.tao_base.specs.declared.session.Event.TheVariants.{Arrive, Acked}
@@ -12,6 +13,7 @@ use Rattle.tao_images.specs.Answers.{with_event, AddsDone}
 use Rattle.tao_images.specs.Paths.{piece}
 use Rattle.tao_model.specs.Events.{arrived}
 use Rattle.tao_model.specs.Requests.{fetched_leaf}
+use Rattle.tao_schedule.specs.Moves.{Move, Serves, Applies}
 use Rattle.tao_tape.specs.Tapes.{either_word, either_left}
 use Rattle.tao_tree.specs.Nodes.{applied, bytes_at}
 use Rattle.tao_world.specs.Changes.{new_sending, with_put, with_bucket}
@@ -50,6 +52,34 @@ with_applied w version j = record w {
   tree = applied w.tree (store_at w version).order.version (slice_index (store_at w version).order.nodes j) (piece w.tree.shape (store_at w version).order.image j);
   stores = slice_set w.stores version (Some (with_put (store_at w version) j));
 }
+
+-- the move that applies node j of a store, unless it was put
+abbrev pub apply_move : WorldState → ℕ → ℕ → List Move
+apply_move w version j = if not (is_set_at (store_at w version).put j) then Applies version (slice_index (store_at w version).order.nodes j) ∷ [] else []
+
+-- the moves that apply the nodes of a store that weren't put, of the first so many, in their order
+abbrev pub applies_below : WorldState → ℕ → ℕ → List Move
+applies_below w version count =
+    map (λ j. Applies version (slice_index (store_at w version).order.nodes j)) (filter (λ j. not (is_set_at (store_at w version).put j)) (range_with_len 0 count))
+
+-- Node j of a store was put.
+pub record HasPut (version j : ℕ) (old new : WorldState) : Type 0 where
+  pub there : is_some (row_at new.stores version) ≡ true
+  pub order : (store_at new version).order ≡ (store_at old version).order
+  pub flags : (e : ℕ) → is_set_at (store_at new version).put e ≡ (if j == e then true else is_set_at (store_at old version).put e)
+  pub flag_count : length (store_at new version).put ≡ length (store_at old version).put
+  pub desk : new.desk ≡ old.desk
+  pub fetches : new.fetches ≡ old.fetches
+
+-- The first nodes of a store, so many, were put.
+pub record HasPutBelow (version count : ℕ) (old new : WorldState) : Type 0 where
+  pub there : is_some (row_at new.stores version) ≡ true
+  pub order : (store_at new version).order ≡ (store_at old version).order
+  pub put : (e : ℕ) → e < count → is_set_at (store_at new version).put e ≡ true
+  pub others : (e : ℕ) → count ≤ e → is_set_at (store_at new version).put e ≡ is_set_at (store_at old version).put e
+  pub flag_count : length (store_at new version).put ≡ length (store_at old version).order.nodes
+  pub desk : new.desk ≡ old.desk
+  pub fetches : new.fetches ≡ old.fetches
 
 -- A store was acknowledged.
 pub record HasAcknowledged (version : ℕ) (old new : WorldState) : Type 0 where
@@ -92,6 +122,24 @@ pub record HasServed (i d : ℕ) (old new : WorldState) : Type 0 where
   pub arrival : (fetch_at new i).arrival ≡ (fetch_at old i).arrival
   pub leaf : (fetch_at new i).leaf ≡ (fetch_at old i).leaf
   pub flags : (e : ℕ) → is_set_at (fetch_at new i).read e ≡ (if d == e then true else is_set_at (fetch_at old i).read e)
+  pub rest : new ≡ record old { fetches = slice_set old.fetches i (Some (fetch_at new i)) }
+
+-- the move that reads the bucket at depth d of a fetch's path, unless it was read
+abbrev pub read_move : WorldState → ℕ → ℕ → List Move
+read_move w i d = if not (is_set_at (fetch_at w i).read d) then Serves i (node_of w i d) ∷ [] else []
+
+-- the moves that read the unread buckets above depth d of a fetch's path, root first
+abbrev pub reads_above : WorldState → ℕ → ℕ → List Move
+reads_above w i d = map (λ e. Serves i (node_of w i e)) (filter (λ e. not (is_set_at (fetch_at w i).read e)) (range_with_len 0 d))
+
+-- All buckets above depth d of a fetch's path were read.
+pub record HasReadAbove (i d : ℕ) (old new : WorldState) : Type 0 where
+  pub there : is_some (row_at new.fetches i) ≡ true
+  pub arrival : (fetch_at new i).arrival ≡ (fetch_at old i).arrival
+  pub leaf : (fetch_at new i).leaf ≡ (fetch_at old i).leaf
+  pub read : (e : ℕ) → e < d → is_set_at (fetch_at new i).read e ≡ true
+  pub others : (e : ℕ) → d ≤ e → is_set_at (fetch_at new i).read e ≡ is_set_at (fetch_at old i).read e
+  pub flag_count : length (fetch_at new i).read ≡ old.desk.history.opening.shape.l + 1
   pub rest : new ≡ record old { fetches = slice_set old.fetches i (Some (fetch_at new i)) }
 
 -- the stores with that of an order behind them, if there is one

@@ -5,6 +5,7 @@ ghost use Rattle.tao_base.specs.Tree.{node_at, node_count};
 ghost use Rattle.tao_tree.specs.Nodes.{bytes_at};
 ghost use Rattle.tao_world.specs.Changes.{bucket_put, with_bucket, new_sending, with_put};
 ghost use Rattle.tao_world.specs.Moving.{IsUnread};
+ghost use Rattle.tao_world.specs.State.{is_set_at};
 ghost use Rattle.tao_world.specs.World.{IsRoom};
 
 use std::alloc::Global;
@@ -73,6 +74,13 @@ impl PathRoom {
         Ok(room)
     }
 
+    // Whether the bucket at depth `d` was read.
+    fn is_read(&self, d: usize) -> bool
+        ensures { result ≡ is_set_at self.now.read d }
+    {
+        d < self.read.len() && self.read[d]
+    }
+
     // Forgets what was read.
     fn clear(&mut self)
         ensures { self.new ≡ record self.old { read = replicate (length self.old.read) false } }
@@ -132,6 +140,13 @@ impl Fetch {
         }
     }
 
+    /// Whether the bucket at depth `d` of its path was read.
+    pub(crate) fn is_read(&self, d: u32) -> bool
+        ensures { result ≡ is_set_at self.now.read d }
+    {
+        self.room.is_read(d as usize)
+    }
+
     /// Reads the bucket at depth `d` of its path from the tree.
     pub(crate) fn read_from(&mut self, tree: &Tree, d: u32)
         requires leaf { self.old.leaf < 2 ^ tree.now.shape.l }
@@ -172,6 +187,20 @@ impl Store {
         let mut put = flags;
         put.truncate(left);
         Store { order, put, left }
+    }
+
+    /// Whether node `j` was put.
+    pub(crate) fn is_put(&self, j: usize) -> bool
+        ensures { result ≡ is_set_at self.now.put j }
+    {
+        j < self.put.len() && self.put[j]
+    }
+
+    /// How many nodes it has.
+    pub(crate) fn nodes(&self) -> usize
+        ensures { result ≡ length self.now.order.nodes }
+    {
+        self.order.nodes.as_slice().len()
     }
 
     #[tactic(auto, using(crate::proofs::Tables::some_left))]

@@ -1,5 +1,5 @@
 //! Moves of fetches: operations arrive, buckets are read from the tree, and whole paths reach the desk.
-ghost use Rattle.std.specs.Prelude.{◌≡◌, ℕ, ◌+◌, ◌*◌, ◌^◌, ◌<◌, ◌≤◌, ◌⊎◌, ◌∷◌, true, false, List, length, reverse, slice_set, Some, None, not, IfSome, ◌==◌, IsSome, IfOk, IfErr, OnOk, OnErr};
+ghost use Rattle.std.specs.Prelude.{◌≡◌, ℕ, ◌+◌, ◌*◌, ◌^◌, ◌<◌, ◌≤◌, ◌⊎◌, ◌∷◌, ◌++◌, true, false, List, length, reverse, slice_set, Some, None, not, IfSome, ◌==◌, IsSome, IfOk, IfErr, OnOk, OnErr};
 ghost use Rattle.tao_base.specs.Limits.{bucket_len, session_limit};
 ghost use Rattle.tao_base.specs.Links.{FitsLinks, order_limit};
 ghost use Rattle.tao_base.specs.Tree.{node_at};
@@ -13,7 +13,7 @@ ghost use Rattle.tao_schedule.specs.Moves.{Move, Arrives, Serves, Completes};
 ghost use Rattle.tao_tape.specs.Tapes.{either_word};
 ghost use Rattle.tao_tree.specs.Nodes.{bytes_at};
 ghost use Rattle.tao_world.specs.Changes.{with_bucket};
-ghost use Rattle.tao_world.specs.Moving.{reading_of, fetch_at, node_of, HasRoom, IsToRead, with_read, HasServed, HasCompleted, IsFull, HasNewFetch, next_word, words_left};
+ghost use Rattle.tao_world.specs.Moving.{reading_of, fetch_at, node_of, HasRoom, IsToRead, with_read, HasServed, read_move, reads_above, HasReadAbove, HasCompleted, IsFull, HasNewFetch, next_word, words_left};
 ghost use Rattle.tao_world.specs.State.{is_set_at, row_at};
 ghost use Rattle.tao_world.specs.World.{IsLeftBy};
 
@@ -79,6 +79,46 @@ impl World {
         Ok(add_store(&mut self.stores, order, flags))
     }
 
+    /// Reads all buckets of a fetch's path that weren't read, root first.
+    pub(crate) fn serve_rest(&mut self, i: usize) -> Result<(), NoMemory>
+        requires { IsSome (row_at self.old.fetches i) }
+        ensures changed { OnOk result (HasReadAbove i (self.old.desk.history.opening.shape.l + 1) self.old self.new) }
+        ensures left { OnOk result ((ms : List Move) → IsLeftBy ms self.old → IsLeftBy (reverse (reads_above self.old i (self.old.desk.history.opening.shape.l + 1)) ++ ms) self.new) }
+        ensures err { OnErr result (self.new ≡ self.old) }
+    {
+        self.give_room(i)?;
+        self.read_rest(i);
+        Ok(())
+    }
+
+    // Reads them into the room that is there.
+    fn read_rest(&mut self, i: usize)
+        requires fetch { IsSome (row_at self.old.fetches i) }
+        requires room { length (fetch_at self.old i).read ≡ self.old.desk.history.opening.shape.l + 1 }
+        ensures changed { HasReadAbove i (self.old.desk.history.opening.shape.l + 1) self.old self.new }
+        ensures left { (ms : List Move) → IsLeftBy ms self.old → IsLeftBy (reverse (reads_above self.old i (self.old.desk.history.opening.shape.l + 1)) ++ ms) self.new }
+    {
+        let depths = self.desk.params().l() + 1;
+        for d in 0..depths {
+            self.read_unread(i, d);
+        }
+    }
+
+    // Reads the bucket into the room that is there, unless it was read.
+    fn read_unread(&mut self, i: usize, d: u32)
+        requires fetch { IsSome (row_at self.old.fetches i) }
+        requires depth { d ≤ self.old.desk.history.opening.shape.l }
+        requires room { length (fetch_at self.old i).read ≡ self.old.desk.history.opening.shape.l + 1 }
+        ensures changed { HasServed i d self.old self.new }
+        ensures room { length (fetch_at self.new i).read ≡ self.old.desk.history.opening.shape.l + 1 }
+        ensures left { (ms : List Move) → IsLeftBy ms self.old → IsLeftBy (read_move self.old i d ++ ms) self.new }
+    {
+        if is_read(&self.fetches, i, d) {
+            return;
+        }
+        self.read_bucket(i, d);
+    }
+
     // Gives a fetch room for its path, if it has none.
     fn give_room(&mut self, i: usize) -> Result<(), NoMemory>
         requires { IsSome (row_at self.old.fetches i) }
@@ -114,6 +154,17 @@ fn has_room(fetches: &[Option<Fetch>], i: usize) -> bool
         unreachable!()
     };
     !fetch.room.is_none()
+}
+
+// Whether the bucket at depth `d` of a fetch's path was read.
+fn is_read(fetches: &[Option<Fetch>], i: usize, d: u32) -> bool
+    requires { IsSome (row_at fetches.now i) }
+    ensures { result ≡ is_set_at (reading_of (row_at fetches.now i)).read d }
+{
+    let Some(fetch) = &fetches[i] else {
+        unreachable!()
+    };
+    fetch.is_read(d)
 }
 
 // Gives a fetch this room.
