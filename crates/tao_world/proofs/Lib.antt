@@ -22,3 +22,4 @@ pub mod NewFetches
 pub mod MoveLists
 pub mod ReadPaths
 pub mod PutNodes
+pub mod Misplaced

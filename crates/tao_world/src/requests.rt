@@ -1,11 +1,13 @@
 //! What a world keeps of the requests that are under way.
-ghost use Rattle.std.specs.Prelude.{◌≡◌, ◌+◌, ◌*◌, ◌^◌, ◌<◌, ◌≤◌, ◌==◌, [], not, false, true, length, replicate, slice_set, count_by, IfOk};
+ghost use Rattle.std.specs.Prelude.{◌≡◌, ◌+◌, ◌*◌, ◌^◌, ◌<◌, ◌≤◌, ◌==◌, [], not, false, true, length, replicate, slice_set, count_by, IfOk, slice_index, ◌&&◌};
+ghost use Rattle.std.specs.List.{list_all, range_with_len};
 ghost use Rattle.tao_base.specs.Limits.{bucket_len};
 ghost use Rattle.tao_base.specs.Tree.{node_at, node_count};
 ghost use Rattle.tao_tree.specs.Nodes.{bytes_at};
 ghost use Rattle.tao_world.specs.Changes.{bucket_put, with_bucket, new_sending, with_put};
 ghost use Rattle.tao_world.specs.Moving.{IsUnread};
 ghost use Rattle.tao_world.specs.State.{is_set_at};
+ghost use Rattle.tao_world.specs.Steps.{has_left};
 ghost use Rattle.tao_world.specs.World.{IsRoom};
 
 use std::alloc::Global;
@@ -147,6 +149,13 @@ impl Fetch {
         self.room.is_read(d as usize)
     }
 
+    /// Whether all buckets above this depth were read.
+    pub(crate) fn is_whole(&self, depths: u32) -> bool
+        ensures { result ≡ list_all (is_set_at self.now.read) (range_with_len 0 depths) }
+    {
+        (0..depths).all(|d| self.is_read(d))
+    }
+
     /// Reads the bucket at depth `d` of its path from the tree.
     pub(crate) fn read_from(&mut self, tree: &Tree, d: u32)
         requires leaf { self.old.leaf < 2 ^ tree.now.shape.l }
@@ -194,6 +203,22 @@ impl Store {
         ensures { result ≡ is_set_at self.now.put j }
     {
         j < self.put.len() && self.put[j]
+    }
+
+    // Whether node `j` is this one, and wasn't put.
+    fn is_left(&self, j: usize, node: u32) -> bool
+        ensures { result ≡ (slice_index self.now.order.nodes j == node && not (is_set_at self.now.put j)) }
+    {
+        let nodes = self.order.nodes.as_slice();
+        let there = if j < nodes.len() { nodes[j] } else { 0 };
+        there == node && !self.is_put(j)
+    }
+
+    /// Whether it has this node and hasn't put it yet.
+    pub(crate) fn has_left(&self, node: u32) -> bool
+        ensures { result ≡ has_left node self.now }
+    {
+        (0..self.nodes()).any(|j| self.is_left(j, node))
     }
 
     /// How many nodes it has.

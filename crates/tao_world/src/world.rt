@@ -19,6 +19,7 @@ use tao_text::Script;
 use tao_tree::Tree;
 
 mod fetching;
+mod placing;
 mod storing;
 
 /// A desk and its server, and the requests under way between them. It opens a session, and plays no step yet.

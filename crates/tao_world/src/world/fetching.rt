@@ -7,7 +7,7 @@ ghost use Rattle.tao_desk.specs.declared.faults.ArriveFault.TheVariants.{Session
 ghost use Rattle.tao_desk.specs.Sound.{IsSound};
 ghost use Rattle.tao_desk.specs.State.{SameStore};
 ghost use Rattle.tao_images.specs.Answers.{AddsDone, IsAnswered};
-ghost use Rattle.tao_model.specs.Events.{arrived, has_fault, is_under_way};
+ghost use Rattle.tao_model.specs.Events.{has_fault, is_under_way};
 ghost use Rattle.tao_model.specs.Lawful.{IsInRange};
 ghost use Rattle.tao_schedule.specs.Moves.{Move, Arrives, Serves, Completes};
 ghost use Rattle.tao_tape.specs.Tapes.{either_word};

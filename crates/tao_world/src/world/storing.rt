@@ -1,5 +1,5 @@
 //! Moves of stores: their nodes are applied, and they are acknowledged.
-ghost use Rattle.std.specs.Prelude.{◌≡◌, ℕ, ◌<◌, ◌≤◌, ◌∷◌, ◌++◌, reverse, not, List, length, count_by, slice_index, slice_set, replicate, false, vec_len, vec_capacity, Some, None, IsSome, IfSome};
+ghost use Rattle.std.specs.Prelude.{◌≡◌, ◌<◌, ◌≤◌, ◌∷◌, ◌++◌, reverse, not, List, length, count_by, slice_index, slice_set, replicate, false, vec_len, vec_capacity, Some, None, IsSome, IfSome};
 ghost use Rattle.std.specs.Option.{option_map};
 ghost use Rattle.tao_base.specs.Links.{FitsLinks};
 ghost use Rattle.tao_images.specs.Paths.{piece};
