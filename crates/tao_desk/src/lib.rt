@@ -10,3 +10,6 @@ pub use ask::Ask;
 pub use desk::Desk;
 pub use desk::scan::Scan;
 pub use faults::{AckFault, AgainFault, ArriveFault, DoneFault, ScanFault, StartFault};
+
+#[cfg(test)]
+mod tests;
