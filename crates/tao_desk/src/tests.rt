@@ -34,7 +34,7 @@ fn turn(rt: &impl Abort, path: &mut Image, at: usize, mask: u8) {
 }
 
 // An order that sends nothing.
-fn no_order(alloc: Global, rt: &impl Abort) -> Order {
+fn no_order(alloc: Global) -> Order {
     Order {
         version: 0,
         nonce: 0,
@@ -72,7 +72,7 @@ fn begin(
     Session::behind(alloc, rt, desk)
 }
 
-// A desk and the server behind it. Clauses see nothing of them, which keeps the proofs of the tests small.
+// A desk and the server behind it. Clauses see nothing of them, and tests let them go by `drop`: both keep the proofs of the tests small.
 #[derive(Drop)]
 struct Session<T: Tape + Drop> {
     desk: Desk<T>,
@@ -91,7 +91,7 @@ impl<T: Tape + Drop> Session<T> {
     // The session of a desk, whose load is sent.
     fn behind(alloc: Global, rt: &impl Abort, desk: Desk<T>) -> Session<T> {
         assert!(rt; 0 < desk.params().nodes());
-        let mut load = no_order(alloc, rt);
+        let mut load = no_order(alloc);
         desk.load_part(0, &mut load).expect(rt, "memory");
         let server = Server::loaded(alloc, rt, desk.params().bucket_len() as usize, &load);
         Session { desk, server }
@@ -256,14 +256,7 @@ impl<T: Tape + Drop> Session<T> {
     }
 }
 
-fn check_values(rt: &impl Abort, array: &[Block], values: &[[u8; 4]]) {
-    assert_eq!(rt; array.len(), values.len());
-    for (block, value) in array.iter().zip(values) {
-        assert!(rt; block.as_slice() == value.as_slice());
-    }
-}
-
-// A closing scan and the server behind it, of which clauses see nothing either.
+// A closing scan and the server behind it. Clauses know that it isn't past the last leaf, and no more.
 #[derive(Drop)]
 struct Closing<T: Tape + Drop> {
     scan: Scan<T>,
@@ -326,6 +319,14 @@ impl<T: Tape + Drop> Closing<T> {
 
     fn events(self) -> usize {
         self.scan.into_history().events().len()
+    }
+}
+
+// These values are the array.
+fn check_values(rt: &impl Abort, array: &[Block], values: &[[u8; 4]]) {
+    assert_eq!(rt; array.len(), values.len());
+    for (block, value) in array.iter().zip(values) {
+        assert!(rt; block.as_slice() == value.as_slice());
     }
 }
 

@@ -6,7 +6,7 @@ use std::process::Abort;
 use tao_base::{Blocks, BucketFault, Cause, Form, Image, Op, Order, Params};
 use tao_tape::ListTape;
 
-// One block and the words that its sessions take.
+// A session of one block, whose buckets have this form.
 fn session(alloc: Global, rt: &impl Abort, form: Form) -> Session<ListTape> {
     begin(alloc, rt, one_block(rt, form), &[1, 0], &[0; 4])
 }
@@ -104,7 +104,7 @@ fn with_an_order(alloc: Global, rt: &impl Abort) -> (Session<ListTape>, Order) {
 fn orders_again(rt: HostRuntime) {
     let alloc = rt.alloc();
     let (desk, order) = with_an_order(alloc, &rt);
-    let mut again = no_order(alloc, &rt);
+    let mut again = no_order(alloc);
     desk.order_again(&rt, 1, &mut again);
     assert_eq!(rt; again.version, 1);
     assert_eq!(rt; again.nonce, 4);
@@ -118,7 +118,7 @@ fn orders_again(rt: HostRuntime) {
 fn strange_versions(rt: HostRuntime) {
     let alloc = rt.alloc();
     let (mut desk, order) = with_an_order(alloc, &rt);
-    let mut again = no_order(alloc, &rt);
+    let mut again = no_order(alloc);
     assert!(rt; desk.refuses_ack(2, AckFault::Stranger));
     assert!(rt; desk.refuses_again(2, &mut again, AgainFault::Stranger));
     assert_eq!(rt; again.version, 0);
@@ -134,7 +134,7 @@ fn strange_versions(rt: HostRuntime) {
 fn issued_orders(rt: HostRuntime) {
     let alloc = rt.alloc();
     let (desk, _) = with_an_order(alloc, &rt);
-    let mut again = no_order(alloc, &rt);
+    let mut again = no_order(alloc);
     assert!(rt; !desk.is_issued(&rt, &again));
     desk.order_again(&rt, 1, &mut again);
     assert!(rt; desk.is_issued(&rt, &again));
@@ -296,7 +296,7 @@ fn old_format_is_damaged(rt: HostRuntime) {
     drop(desk);
 }
 
-// a fetch is done once: its number is that of no fetch under way afterwards
+// the answer to another session's fetch is refused where none is under way, and the session goes on
 #[test]
 fn strangers(rt: HostRuntime) {
     let alloc = rt.alloc();
