@@ -1,5 +1,4 @@
 //! Sessions of a desk with a server in memory, which answers as it was stored or with bytes turned. The processor is tested here too.
-ghost use Rattle.std.specs.Prelude.{◌≡◌, length};
 
 mod refusals;
 mod scans;
