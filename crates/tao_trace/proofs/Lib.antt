@@ -2,6 +2,7 @@ pub mod Counted
 pub mod Fits
 pub mod Following
 pub mod Kept
+pub mod NextPlaces
 pub mod NextReal
 pub mod Ranges
 pub mod Released

@@ -16,29 +16,14 @@ use Rattle.tao_model.proofs.LawfulToWhole.{arrived_within}
 use Rattle.tao_sequence.specs.Release.{IsReleased}
 use Rattle.tao_sequence.proofs.Flags.{raised}
 use Rattle.tao_trace.specs.Printing.{events_before}
-use Rattle.tao_trace.specs.Tables.{AreFlags, Fit}
+use Rattle.tao_trace.specs.Places.{PlacesState, AreFlags}
+use Rattle.tao_trace.specs.Tables.{Fit}
 use Rattle.tao_trace.specs.declared.tables.Told.{Told}
-use Rattle.tao_trace.specs.declared.tables.Slot.{Slot}
 use Rattle.tao_trace.proofs.Following.{front_follows}
 
 -- an arrival that may be done has a flag
 pub has_flag : (o : Opening) (es : List Event) (arrival : ℕ) (taken : List Bucket) (flags : List Bool) → AreFlags o es flags → FollowsLawfully o (Done arrival taken ∷ es) → arrival < length flags
 has_flag o es arrival taken flags are f = let len = are.len in let limit = arrived_within o es f.0 in let there = f.2.1.arrived in omega arith
-
--- a Done raises it
-pub flags_done : (o : Opening) (es : List Event) (arrival : ℕ) (taken : List Bucket) (flags : List Bool) → AreFlags o es flags → FollowsLawfully o (Done arrival taken ∷ es)
-    → AreFlags o (Done arrival taken ∷ es) (set flags arrival true)
-flags_done o es arrival taken flags are f = record {
-  len = length-set flags arrival true ∙ are.len;
-  each = λ i. raised flags arrival i (has_flag o es arrival taken flags are f) ∙ ap (λ t. nat_eq arrival i || t) (are.each i);
-}
-
-pub flags_first : (o : Opening) → AreFlags o [] (replicate (session_limit o.shape) false)
-flags_first o = record { len = length-replicate (session_limit o.shape) false; each = λ i. either i (cases_lt i (session_limit o.shape)) }
-  where
-    either : (i : ℕ) → (i < session_limit o.shape) ⊎ (session_limit o.shape ≤ i) → get_or (replicate (session_limit o.shape) false) i false ≡ false
-    either i (inl low) = get_or-replicate (session_limit o.shape) i false false low
-    either i (inr high) = get_or_past (replicate (session_limit o.shape) false) i false (let len = length-replicate (session_limit o.shape) false in omega (arith, len))
 
 -- what the flags say is released is what the record has released
 pub released_is : (o : Opening) (es : List Event) (flags : List Bool) (r : ℕ) → FollowsLawfully o es → AreFlags o es flags → IsReleased flags r → r ≡ released es
@@ -62,9 +47,9 @@ released_is o es flags r f are is =
     }
 
 -- what the tables say is released
-pub released_told : (h : History) (place : ℕ) (told : List Told) (slots : List Slot) (flags : List Bool) (r : ℕ) → Fit h place told slots flags → IsReleased flags r
+pub released_told : (h : History) (place : ℕ) (told : List Told) (values : List (List ℕ)) (places : PlacesState) (r : ℕ) → Fit h place told values places → IsReleased places.done r
     → (r ≡ released (events_before h place)) × (r ≤ arrived (events_before h place))
-released_told h place told slots flags r f is =
-    let same = released_is h.opening (events_before h place) flags r (front_follows h place f.follows) f.tables.dones is in
+released_told h place told values places r f is =
+    let same = released_is h.opening (events_before h place) places.done r (front_follows h place f.follows) f.tables.tape.dones is in
     let within = (leading_is (is_done (events_before h place)) (arrived (events_before h place))).within in
     (same, omega (arith, same, within))

@@ -9,21 +9,16 @@ use Rattle.tao_base.specs.declared.session.Event.{Event}
 use Rattle.tao_base.specs.declared.session.Event.TheVariants.{Arrive, Done}
 use Rattle.tao_base.specs.declared.storage.Bucket.{Bucket}
 use Rattle.tao_base.specs.Session.{Opening}
-use Rattle.tao_base.specs.Array.{block_at, array_step, array_reply}
-use Rattle.tao_model.specs.Greatest.{IsLast}
-use Rattle.tao_model.specs.Events.{arrived, names, is_pad, is_pad_op}
-use Rattle.tao_model.specs.Requests.{real_now}
-use Rattle.tao_model.specs.LookBacks.{is_real_on}
+use Rattle.tao_base.specs.Array.{array_step, array_reply}
+use Rattle.tao_model.specs.Events.{arrived, is_pad, is_pad_op, NamesBelow}
 use Rattle.tao_model.specs.Replies.{array_now, plain_reply}
-use Rattle.tao_model.specs.Lawful.{FollowsLawfully, IsOpening}
+use Rattle.tao_model.specs.Lawful.{FollowsLawfully, IsInRange}
 use Rattle.tao_model.proofs.Stays.{pad_stays, client_stays, word_stays, reply_stays}
-use Rattle.tao_model.proofs.LastReal.{last_arrive}
-use Rattle.tao_model.proofs.LawfulToWhole.{follows_opening}
-use Rattle.tao_trace.specs.Tables.{reply_of, reply_for, value_after, IsTold, IsSlot, AreTables, AreMoved, IsMoved}
+use Rattle.tao_trace.specs.Places.{PlacesState, with_arrival, with_done}
+use Rattle.tao_trace.specs.Tables.{reply_of, reply_for, IsTold, AreTables}
 use Rattle.tao_trace.specs.declared.tables.Told.{Told}
-use Rattle.tao_trace.specs.declared.tables.Slot.{Slot}
-use Rattle.tao_trace.proofs.Following.{array_len}
-use Rattle.tao_trace.proofs.Released.{flags_done}
+use Rattle.tao_trace.proofs.NextPlaces.{arrive_places, done_places}
+use Rattle.tao_trace.proofs.Released.{has_flag}
 
 -- ---- an arrival
 
@@ -67,40 +62,21 @@ row_stays o es client op word i row h told = record {
       ∙ ap (λ r. cond (is_pad (Arrive client op word ∷ es) i) None (Some r)) (sym (reply_stays o es (Arrive client op word) i h));
 }
 
--- a block's value after an operation
-value_is : (blocks : List (List ℕ)) (op : Op) (block : ℕ) → block < length blocks → value_after block op (block_at blocks block) ≡ block_at (array_step blocks op) block
-value_is blocks (Read id) block h = refl
-value_is blocks Pad block h = refl
-value_is blocks (Write id value) block h = either (cases_eq id block)
-  where
-    either : (id ≡ block) ⊎ (id ≡ block → ⊥) → cond (id == block) value (block_at blocks block) ≡ block_at (set blocks id value) block
-    either (inl same) = rw (eq-eqb id block same) (sym (subst (λ i. get_or (set blocks i value) block [] ≡ value) (sym same) (get_or-set_same blocks block value [] h)))
-    either (inr other) = rw (ne_eqb id block other) (sym (get_or-set_other blocks id block value [] (λ same. other (sym same))))
+pub names_below : (o : Opening) (op : Op) → IsInRange o.shape op → NamesBelow o.shape.n op
+names_below o (Read id) r = r
+names_below o (Write id value) r = r.0
+names_below o Pad r = r
 
-slot_moves : (o : Opening) (es : List Event) (client : ℕ) (op : Op) (word block arrival : ℕ) (old new : Slot) → block < length (array_now o es) → arrival ≡ arrived es
-    → IsSlot o es block old → IsMoved op arrival (real_now es op) block old new → IsSlot o (Arrive client op word ∷ es) block new
-slot_moves o es client op word block arrival old new h at slot moved = record {
-  last = subst (IsLast (is_real_on (Arrive client op word ∷ es) block) (arrived es + 1)) (sym (moved.last ∙ ap (λ n. cond (real_now es op && names block op) (Some n) old.last) at))
-      (last_arrive es client op word block old.last (real_now es op && names block op) refl slot.last);
-  value = moved.value ∙ ap (value_after block op) slot.value ∙ value_is (array_now o es) op block h;
-}
-
-pub tables_arrive : (o : Opening) (es : List Event) (client : ℕ) (op : Op) (word : ℕ) (told : List Told) (slots new : List Slot) (flags : List Bool) (row : Told)
-    → FollowsLawfully o (Arrive client op word ∷ es) → AreTables o es told slots flags → IsNewRow o es client op word row
-    → length new ≡ length slots → AreMoved op (length told) (real_now es op) slots new → AreTables o (Arrive client op word ∷ es) (told ++ row ∷ []) new flags
-tables_arrive o es client op word told slots new flags row f t is_row len moved = record {
+pub tables_arrive : (o : Opening) (es : List Event) (client : ℕ) (op : Op) (word own : ℕ) (told : List Told) (values : List (List ℕ)) (places : PlacesState) (row : Told)
+    → FollowsLawfully o (Arrive client op word ∷ es) → AreTables o es told values places → IsNewRow o es client op word row → own ≡ o.shape.n + arrived es
+    → AreTables o (Arrive client op word ∷ es) (told ++ row ∷ []) (array_step values op) (with_arrival places op own)
+tables_arrive o es client op word own told values places row f t is_row is = record {
   arrivals = length_push told row ∙ ap (λ n. n + 1) t.arrivals;
   each = λ i d h. either i d (cases_lt i (length told)) h;
-  blocks = len ∙ t.blocks;
-  all = λ block d h. let small : block < length slots = let l = len in omega arith in
-      slot_moves o es client op word block (length told) (get_or slots block d) (get_or new block d)
-      (let a = array_len o es in let b = opens.blocks in let c = t.blocks in omega arith) t.arrivals (t.all block d small) (moved block d small);
-  dones = record { len = t.dones.len; each = t.dones.each };
+  array = ap (λ l. array_step l op) t.array;
+  tape = arrive_places o es places client word op own t.tape (names_below o op f.2.3) is;
 }
   where
-    opens : IsOpening o
-    opens = follows_opening o es f.0
-
     either : (i : ℕ) (d : Told) → (i < length told) ⊎ (length told ≤ i) → i < length (told ++ row ∷ []) → IsTold o (Arrive client op word ∷ es) i (get_or (told ++ row ∷ []) i d)
     either i d (inl older) h = subst (IsTold o (Arrive client op word ∷ es) i) (sym (get_or_append_left told (row ∷ []) d i older))
         (row_stays o es client op word i (get_or told i d) (let a = t.arrivals in omega arith) (t.each i d older))
@@ -112,12 +88,11 @@ tables_arrive o es client op word told slots new flags row f t is_row len moved 
 
 -- ---- a Done
 
-pub tables_done : (o : Opening) (es : List Event) (arrival : ℕ) (taken : List Bucket) (told : List Told) (slots : List Slot) (flags : List Bool)
-    → FollowsLawfully o (Done arrival taken ∷ es) → AreTables o es told slots flags → AreTables o (Done arrival taken ∷ es) told slots (set flags arrival true)
-tables_done o es arrival taken told slots flags f t = record {
+pub tables_done : (o : Opening) (es : List Event) (arrival : ℕ) (taken : List Bucket) (told : List Told) (values : List (List ℕ)) (places : PlacesState)
+    → FollowsLawfully o (Done arrival taken ∷ es) → AreTables o es told values places → AreTables o (Done arrival taken ∷ es) told values (with_done places arrival)
+tables_done o es arrival taken told values places f t = record {
   arrivals = t.arrivals;
   each = λ i d h. let r = t.each i d h in record { client = r.client; word = r.word; reply = r.reply };
-  blocks = t.blocks;
-  all = λ block d h. let s = t.all block d h in record { last = s.last; value = s.value };
-  dones = flags_done o es arrival taken flags t.dones f;
+  array = t.array;
+  tape = done_places o es places arrival taken t.tape (has_flag o es arrival taken places.done t.tape.dones f);
 }

@@ -15,9 +15,9 @@ use Rattle.tao_model.specs.Requests.{fetched_leaf}
 use Rattle.tao_model.specs.Trace.{nodes_in, requests, again_of}
 use Rattle.tao_model.specs.Lawful.{FollowsLawfully}
 use Rattle.tao_trace.specs.Printing.{events_before}
+use Rattle.tao_trace.specs.Places.{PlacesState}
 use Rattle.tao_trace.specs.Tables.{Fit, FitSent, IsNext, word_fetched}
 use Rattle.tao_trace.specs.declared.tables.Told.{Told}
-use Rattle.tao_trace.specs.declared.tables.Slot.{Slot}
 use Rattle.tao_trace.specs.declared.tables.Sent.{Sent}
 use Rattle.tao_trace.proofs.Following.{front_follows}
 use Rattle.tao_trace.proofs.Texts.{leaf_is}
@@ -31,11 +31,11 @@ one_request : (h : History) (place : ℕ) (e : Event) (request : Request) (old n
 one_request h place e request old new n adds before pushed =
     pushed ∙ ap (λ (l : List Request). l ++ request ∷ []) before ∙ sym adds ∙ sym (ap (requests h.opening) n.before)
 
-pub fetch_traced : (h : History) (place client word arrival leaf : ℕ) (op : Op) (told : List Told) (slots : List Slot) (flags : List _) (old new : List Request)
-    → Fit h place told slots flags → IsNext h place (Arrive client op word)
+pub fetch_traced : (h : History) (place client word arrival leaf : ℕ) (op : Op) (told : List Told) (values : List (List ℕ)) (places : PlacesState) (old new : List Request)
+    → Fit h place told values places → IsNext h place (Arrive client op word)
     → arrival ≡ length told → leaf ≡ leaf_of h.opening.shape.l (word_fetched h.opening (events_before h place) op word)
     → old ≡ requests h.opening (events_before h place) → new ≡ old ++ Fetch arrival leaf ∷ [] → new ≡ requests h.opening (events_before h (place + 1))
-fetch_traced h place client word arrival leaf op told slots flags old new f n at is before pushed =
+fetch_traced h place client word arrival leaf op told values places old new f n at is before pushed =
     one_request h place (Arrive client op word) (Fetch (arrived (events_before h place)) fetched) old new n refl before
     (pushed ∙ ap (λ (l : ℕ). old ++ Fetch arrival l ∷ []) (is ∙ sym (leaf_is h.opening (events_before h place) client op word n.follows))
     ∙ ap (λ (i : ℕ). old ++ Fetch i fetched ∷ []) (at ∙ f.tables.arrivals))

@@ -1,4 +1,5 @@
 pub mod Counts
+pub mod Places
 pub mod Printing
 pub mod Tables
 pub mod Told

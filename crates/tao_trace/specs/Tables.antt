@@ -21,9 +21,9 @@ use Rattle.tao_model.specs.Trace.{nodes_in, again_of}
 use Rattle.tao_model.specs.Transcript.{event_lines, again_line, again_before}
 use Rattle.tao_model.specs.Lawful.{FollowsLawfully}
 use Rattle.tao_sequence.specs.Release.{is_done_in}
+use Rattle.tao_trace.specs.Places.{PlacesState, ArePlaces}
 use Rattle.tao_trace.specs.Printing.{PrinterState, events_before, sent_once, lines_at}
 use Rattle.tao_trace.specs.declared.tables.Told.{Told}
-use Rattle.tao_trace.specs.declared.tables.Slot.{Slot}
 use Rattle.tao_trace.specs.declared.tables.Sent.{Sent}
 
 -- what an arrival is answered; a pad isn't
@@ -36,23 +36,12 @@ pub record IsTold (o : Opening) (es : List Event) (i : ℕ) (row : Told) : Type 
   pub word : row.word ≡ word_of es i
   pub reply : option_map (λ value. value.now) row.reply ≡ reply_of o es i
 
--- what is kept of a block: its last real arrival and its value
-pub record IsSlot (o : Opening) (es : List Event) (block : ℕ) (slot : Slot) : Type 0 where
-  pub last : IsLast (is_real_on es block) (arrived es) slot.last
-  pub value : slot.value.now ≡ block_at (array_now o es) block
-
--- a flag for each arrival that a session may have, up where it is done
-pub record AreFlags (o : Opening) (es : List Event) (flags : List Bool) : Type 0 where
-  pub len : length flags ≡ session_limit o.shape
-  pub each : (i : ℕ) → is_done_in flags i ≡ is_done es i
-
--- the tables fit these events, the newest first: a row for each arrival, a slot for each block, and the flags of what is done
-pub record AreTables (o : Opening) (es : List Event) (told : List Told) (slots : List Slot) (flags : List Bool) : Type 0 where
+-- the tables fit these events, the newest first: a row for each arrival, the value of each block, and the places of the tape
+pub record AreTables (o : Opening) (es : List Event) (told : List Told) (values : List (List ℕ)) (places : PlacesState) : Type 0 where
   pub arrivals : length told ≡ arrived es
   pub each : (i : ℕ) (d : Told) → i < length told → IsTold o es i (slice_index_or told i d)
-  pub blocks : length slots ≡ o.shape.n
-  pub all : (block : ℕ) (d : Slot) → block < length slots → IsSlot o es block (slice_index_or slots block d)
-  pub dones : AreFlags o es flags
+  pub array : values ≡ array_now o es
+  pub tape : ArePlaces o es places
 
 -- whether an event is an acknowledgement
 abbrev pub is_ack : Event → Bool
@@ -78,10 +67,10 @@ pub record FitSent (h : History) (place again : ℕ) (sent : List Sent) (once : 
   pub limit : once ≡ sent_once h again - acks (events_before h place)
 
 -- the record is lawful, and the tables fit its events before the place
-pub record Fit (h : History) (place : ℕ) (told : List Told) (slots : List Slot) (flags : List Bool) : Type 0 where
+pub record Fit (h : History) (place : ℕ) (told : List Told) (values : List (List ℕ)) (places : PlacesState) : Type 0 where
   pub within : place ≤ length h.events
   pub follows : FollowsLawfully h.opening (reverse h.events)
-  pub tables : AreTables h.opening (events_before h place) told slots flags
+  pub tables : AreTables h.opening (events_before h place) told values places
 
 -- an event comes next
 pub record IsNext (h : History) (place : ℕ) (e : Event) : Type 0 where
@@ -91,8 +80,8 @@ pub record IsNext (h : History) (place : ℕ) (e : Event) : Type 0 where
   pub follows : FollowsLawfully h.opening (e ∷ events_before h place)
 
 -- the tables of the arrivals and blocks, and those of the write-backs
-pub record FitAll (h : History) (place again : ℕ) (told : List Told) (slots : List Slot) (flags : List Bool) (sent : List Sent) (once : ℕ) : Type 0 where
-  pub arrivals : Fit h place told slots flags
+pub record FitAll (h : History) (place again : ℕ) (told : List Told) (values : List (List ℕ)) (places : PlacesState) (sent : List Sent) (once : ℕ) : Type 0 where
+  pub arrivals : Fit h place told values places
   pub writes : FitSent h place again sent once
 
 -- this event is the next one to print
@@ -115,31 +104,8 @@ reply_for blocks (Read id) = Some (block_at blocks id)
 reply_for blocks (Write id value) = Some (block_at blocks id)
 reply_for blocks Pad = None
 
--- the value of a block after an operation
-abbrev pub value_after : ℕ → Op → List ℕ → List ℕ
-value_after block (Read id) value = value
-value_after block (Write id written) value = if id == block then written else value
-value_after block Pad value = value
-
--- A new arrival moves a block's slot: a real one on the block is now its last, and what it writes there is its value.
-pub record IsMoved (op : Op) (arrival : ℕ) (real : Bool) (block : ℕ) (old new : Slot) : Type 0 where
-  pub last : new.last ≡ (if real && names block op then Some arrival else old.last)
-  pub value : new.value.now ≡ value_after block op old.value.now
-
 -- the word whose leaf is fetched by a new arrival
 abbrev pub word_fetched : Opening → List Event → Op → ℕ → ℕ
 word_fetched o es (Read id) word = if real_now es (Read id) then word_at o es (next_word o es id) else word
 word_fetched o es (Write id value) word = if real_now es (Read id) then word_at o es (next_word o es id) else word
 word_fetched o es Pad word = word
-
--- a new arrival has so moved the slot of each block
-abbrev pub AreMoved : Op → ℕ → Bool → List Slot → List Slot → Type 0
-AreMoved op arrival real old new = (block : ℕ) (d : Slot) → block < length old → IsMoved op arrival real block (slice_index_or old block d) (slice_index_or new block d)
-
--- ---- the start
-
--- blocks with their first values, before any arrival
-pub record AreFirst (first : List (List ℕ)) (slots : List Slot) : Type 0 where
-  pub blocks : length slots ≡ length first
-  pub last : All (λ slot. slot.last ≡ None) slots
-  pub values : map (λ slot. slot.value.now) slots ≡ first

@@ -115,7 +115,7 @@ impl<'a> Tables<'a> {
         ensures within { result ≤ arrived (printed self.now) }
         ensures limit { result ≤ 65536 }
     {
-        self.sequence.released()
+        self.places.released()
     }
 
     // The sum of the bytes of a reply; a pad has none.

@@ -92,8 +92,8 @@ impl<'a> Tables<'a> {
         ensures ok { OnOk result (out.new ≡ out.old ++ lines_at self.now.history self.now.again self.now.place) }
         ensures err { OnErr result (Extends out.old out.new) }
     {
-        let released = self.sequence.released();
-        let end = self.sequence.released_after(arrival);
+        let released = self.places.released();
+        let end = self.places.released_after(arrival);
         line_words(out, "done", &[arrival])?;
         self.push_replies(out, released, end)?;
         Ok(())

@@ -8,6 +8,7 @@ mod events;
 mod laws;
 mod lines;
 mod opening;
+mod places;
 mod printer;
 mod requests;
 mod tables;

@@ -1,9 +1,9 @@
 //! What is kept of the events that were printed: of each arrival, of each block, and which arrivals are done.
-ghost use Rattle.std.specs.Prelude.{◌≡◌, ◌+◌, ◌-◌, ◌<◌, ◌≤◌, ◌%◌, ◌^◌, ◌↔◌, [], ◌∷◌, ◌++◌, length, reverse, slice_index, Some, None, OnOk, OnErr, IfOk, get_or};
+ghost use Rattle.std.specs.Prelude.{◌≡◌, ◌+◌, ◌-◌, ◌<◌, ◌≤◌, ◌%◌, ◌^◌, ◌↔◌, [], ◌∷◌, ◌++◌, length, map, reverse, slice_index, Some, None, OnOk, OnErr, IfOk, get_or};
 ghost use Rattle.std.specs.List.{slice_index_or, count_by};
 ghost use Rattle.std.specs.Option.{option_map};
 ghost use Rattle.tao_base.specs.declared.calls.Op.TheVariants.{Read};
-ghost use Rattle.tao_base.specs.Array.{block_at};
+ghost use Rattle.tao_base.specs.Array.{array_step, block_at};
 ghost use Rattle.tao_base.specs.Limits.{IsShape};
 ghost use Rattle.tao_base.specs.Tree.{leaf_of};
 ghost use Rattle.tao_base.specs.declared.session.Event.TheVariants.{Arrive, Done, Issue, Acked, Fault};
@@ -12,13 +12,13 @@ ghost use Rattle.tao_model.specs.Requests.{real_now, next_word};
 ghost use Rattle.tao_model.specs.Replies.{array_now};
 ghost use Rattle.tao_model.specs.Lawful.{FollowsLawfully, IsInRange};
 ghost use Rattle.tao_trace.specs.Printing.{printed, gone_on, at_start};
-ghost use Rattle.tao_trace.specs.Tables.{is_ack, AreFirst, NextOf, IsDoneNext, AreMoved, word_fetched, reply_for};
+ghost use Rattle.tao_trace.specs.Tables.{is_ack, NextOf, IsDoneNext, word_fetched, reply_for};
 
+use crate::places::Places;
 use std::alloc::Global;
 use std::marker::Model;
 use tao_base::{Block, Bucket, Cause, Event, NoMemory, Op};
 use tao_record::Record;
-use tao_sequence::Sequence;
 
 /// An arrival: who made it, its own word, and what it is answered, where it is no pad.
 #[derive(Clone, Copy, Debug)]
@@ -28,13 +28,6 @@ pub(crate) struct Told<'a> {
     pub(crate) reply: Option<&'a Block>,
 }
 
-/// A block: its last real arrival, and its value after all arrivals.
-#[derive(Clone, Copy, Debug)]
-pub(crate) struct Slot<'a> {
-    pub(crate) last: Option<usize>,
-    pub(crate) value: &'a Block,
-}
-
 /// A write-back, as it is sent again.
 #[derive(Clone, Copy, Debug)]
 pub(crate) struct Sent<'a> {
@@ -42,20 +35,22 @@ pub(crate) struct Sent<'a> {
     pub(crate) buckets: &'a [Bucket],
 }
 
-/// What is kept of the events before a place of the record. The next `once` acknowledgements are of stores that were sent once.
+/// What is kept of the events before a place of the record: the arrivals, the value of each block, the places of the tape, and the
+/// write-backs. The next `once` acknowledgements are of stores that were sent once.
 #[derive(Debug, Drop)]
 pub(crate) struct Tables<'a> {
     pub(crate) history: &'a Record,
     pub(crate) place: usize,
     pub(crate) told: Vec<Told<'a>>,
-    pub(crate) slots: Vec<Slot<'a>>,
-    pub(crate) sequence: Sequence,
+    pub(crate) values: Vec<&'a Block>,
+    pub(crate) places: Places,
     pub(crate) sent: Vec<Sent<'a>>,
     pub(crate) once: usize,
     pub(crate) again: usize,
 }
 
 impl<'a> Model for Tables<'a> {
+    ghost use Rattle.std.specs.Prelude.{map};
     ghost use Rattle.tao_trace.specs.Printing.{PrinterState};
     ghost use Rattle.tao_trace.specs.Tables.{FitAll};
 
@@ -63,7 +58,7 @@ impl<'a> Model for Tables<'a> {
 
     ghost view = { λ t. record { history = t.history.now.history; place = t.place; again = t.again } };
 
-    ghost invariant = { λ t. FitAll t.history.now.history t.place t.again t.told.items t.slots.items t.sequence t.sent.items t.once };
+    ghost invariant = { λ t. FitAll t.history.now.history t.place t.again t.told.items (map (λ value. value.now) t.values.items) t.places t.sent.items t.once };
 }
 
 impl<'a> Tables<'a> {
@@ -80,8 +75,8 @@ impl<'a> Tables<'a> {
             history,
             place: 0,
             told: Vec::new(alloc),
-            slots: first_slots(alloc, history.first())?,
-            sequence: Sequence::new(alloc, history.params())?,
+            values: first_values(alloc, history.first())?,
+            places: Places::new(alloc, history.params())?,
             sent: Vec::new(alloc),
             once: count_acks(history.events()).saturating_sub(again),
             again,
@@ -95,14 +90,22 @@ impl<'a> Tables<'a> {
         self.history.events().len() - self.place
     }
 
-    /// Whether no real arrival on the block is under way.
-    fn is_free(&self, block: usize) -> bool
-        requires { block < self.now.history.opening.shape.n }
-        ensures { result ≡ real_now (printed self.now) (Read block) }
+    /// Whether an arrival of this operation is real.
+    pub(crate) fn is_real(&self, op: &Op) -> bool
+        requires { IsInRange self.now.history.opening.shape op.now }
+        ensures { result ≡ real_now (printed self.now) op.now }
     {
-        match self.slots[block].last {
-            Some(arrival) => self.sequence.is_done(arrival as u64),
-            None => true,
+        self.places.is_real(op)
+    }
+
+    fn word_on(&self, block: usize, word: u32) -> u32
+        requires { block < self.now.history.opening.shape.n }
+        ensures { result ≡ word_fetched self.now.history.opening (printed self.now) (Read block) word }
+    {
+        if self.places.is_free(block) {
+            self.next_word(block)
+        } else {
+            word
         }
     }
 
@@ -111,31 +114,12 @@ impl<'a> Tables<'a> {
         requires { block < self.now.history.opening.shape.n }
         ensures { result ≡ word_at self.now.history.opening (printed self.now) (next_word self.now.history.opening (printed self.now) block) }
     {
-        match self.slots[block].last {
-            Some(arrival) => self.told[arrival].word,
-            None => first_word(self.history.words(), block),
-        }
-    }
-
-    /// Whether an arrival of this operation is real.
-    pub(crate) fn is_real(&self, op: &Op) -> bool
-        requires { IsInRange self.now.history.opening.shape op.now }
-        ensures { result ≡ real_now (printed self.now) op.now }
-    {
-        match op {
-            Op::Read(id) | Op::Write(id, _) => self.is_free(*id as usize),
-            Op::Pad => false,
-        }
-    }
-
-    fn word_on(&self, block: usize, word: u32) -> u32
-        requires { block < self.now.history.opening.shape.n }
-        ensures { result ≡ word_fetched self.now.history.opening (printed self.now) (Read block) word }
-    {
-        if self.is_free(block) {
-            self.next_word(block)
+        let words = self.history.words();
+        let place = self.places.next_on(block) as usize;
+        if place < words.len() {
+            words[place]
         } else {
-            word
+            self.told[place - words.len()].word
         }
     }
 
@@ -144,11 +128,25 @@ impl<'a> Tables<'a> {
         requires { IsInRange self.now.history.opening.shape op.now }
         ensures { result ≡ leaf_of self.now.history.opening.shape.l (word_fetched self.now.history.opening (printed self.now) op.now word) }
     {
-        let word = match op {
+        self.word_for(op, word) % (1 << self.history.params().l())
+    }
+
+    // The word that an arrival of this operation uses, whose own is this one.
+    fn word_for(&self, op: &Op, word: u32) -> u32
+        requires { IsInRange self.now.history.opening.shape op.now }
+        ensures { result ≡ word_fetched self.now.history.opening (printed self.now) op.now word }
+    {
+        match op {
             Op::Read(id) | Op::Write(id, _) => self.word_on(*id as usize, word),
             Op::Pad => word,
-        };
-        word % (1 << self.history.params().l())
+        }
+    }
+
+    fn value_on(&self, block: usize) -> &'a Block
+        requires { block < self.now.history.opening.shape.n }
+        ensures { result.now ≡ block_at (array_now self.now.history.opening (printed self.now)) block }
+    {
+        self.values[block]
     }
 
     /// What an arrival of this operation is answered.
@@ -157,7 +155,7 @@ impl<'a> Tables<'a> {
         ensures { option_map (λ value. value.now) result ≡ reply_for (array_now self.now.history.opening (printed self.now)) op.now }
     {
         match op {
-            Op::Read(id) | Op::Write(id, _) => Some(self.slots[*id as usize].value),
+            Op::Read(id) | Op::Write(id, _) => Some(self.value_on(*id as usize)),
             Op::Pad => None,
         }
     }
@@ -170,17 +168,24 @@ impl<'a> Tables<'a> {
         ensures err { OnErr result (self.new ≡ self.old) }
     {
         let next = self.next_place();
-        let arrival = self.told.len();
-        let real = self.is_real(op);
+        let own = self.own_place();
         let reply = self.reply_to(op);
         self.told.push(Told {
             client,
             word,
             reply,
         })?;
-        move_slot(&mut self.slots, op, arrival, real);
+        self.places.add_arrival(op, own);
+        write(&mut self.values, op);
         self.place = next;
         Ok(())
+    }
+
+    // The place of the next arrival's own word.
+    fn own_place(&self) -> u32
+        ensures { result ≡ self.now.history.opening.shape.n + arrived (printed self.now) }
+    {
+        self.history.params().n() + self.told.len() as u32
     }
 
     /// Keeps a Done.
@@ -189,7 +194,7 @@ impl<'a> Tables<'a> {
         ensures { self.new ≡ gone_on self.old }
     {
         let next = self.next_place();
-        self.sequence.done(arrival);
+        self.places.add_done(arrival);
         self.place = next;
     }
 
@@ -257,43 +262,20 @@ fn is_ack(event: &Event) -> bool
     matches!(event, Event::Acked { .. })
 }
 
-fn first_word(words: &[u32], block: usize) -> u32
-    requires { block < length words.now }
-    ensures { result ≡ slice_index words.now block }
+// The values before the first event.
+fn first_values<'a>(alloc: Global, first: &'a [Block]) -> Result<Vec<&'a Block>, NoMemory>
+    ensures { IfOk result (λ values. map (λ value. value.now) values.items ≡ first.now) }
 {
-    words[block]
+    Ok(first.iter().collect(alloc)?)
 }
 
-// The blocks before the first event.
-fn first_slots<'a>(alloc: Global, first: &'a [Block]) -> Result<Vec<Slot<'a>>, NoMemory>
-    ensures { IfOk result (λ slots. AreFirst first.now slots.items) }
-{
-    let mut slots = Vec::with_capacity(alloc, first.len())?;
-    for value in first {
-        slots.push(Slot { last: None, value })?;
-    }
-    Ok(slots)
-}
-
-// What a new arrival makes of its block.
-fn move_slot<'a>(slots: &mut Vec<Slot<'a>>, op: &'a Op, arrival: usize, real: bool)
-    requires range { NamesBelow (length slots.old.items) op.now }
-    ensures len { length slots.new.items ≡ length slots.old.items }
-    ensures moved { AreMoved op.now arrival real slots.old.items slots.new.items }
+// Puts what an operation writes.
+fn write<'a>(values: &mut Vec<&'a Block>, op: &'a Op)
+    requires { NamesBelow (length values.old.items) op.now }
+    ensures { map (λ value. value.now) values.new.items ≡ array_step (map (λ value. value.now) values.old.items) op.now }
 {
     match op {
-        Op::Read(id) => {
-            if real {
-                slots[*id as usize].last = Some(arrival);
-            }
-        }
-        Op::Write(id, value) => {
-            let slot = &mut slots[*id as usize];
-            slot.value = value;
-            if real {
-                slot.last = Some(arrival);
-            }
-        }
-        Op::Pad => {}
+        Op::Write(id, value) => values[*id as usize] = value,
+        Op::Read(_) | Op::Pad => {}
     }
 }

@@ -5,7 +5,7 @@ use Rattle.tao_trace.proofs.Texts.{done_releases}
 use Rattle.tao_trace.proofs.tables.Tables.push_done.Goals as goal
 
 pub released_after-end-requires : goal.released_after-end-requires
-released_after-end-requires c = has_flag _ _ _ _ _ (fit_of _ _ _ _ _ c.self.view_is c.self.invariant.arrivals).tables.dones (c.requires.1).follows
+released_after-end-requires c = has_flag _ _ _ _ _ (fit_of _ _ _ _ _ c.self.view_is c.self.invariant.arrivals).tables.tape.dones (c.requires.1).follows
 
 pub push_replies-requires-clause-low : goal.push_replies-requires-clause-low
 push_replies-requires-clause-low c =
