@@ -46,7 +46,7 @@ pub(crate) fn checksum(alloc: Global, turn: Turn, count: u32) -> Result<u64, any
 }
 
 // A cheap hash.
-fn mixed(number: u32) -> u32 {
+pub(crate) fn mixed(number: u32) -> u32 {
     let mut word = number.wrapping_add(1).wrapping_mul(0x9e37_79b1);
     word ^= word >> 15;
     word = word.wrapping_mul(0x85eb_ca77);

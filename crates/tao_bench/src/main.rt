@@ -4,6 +4,7 @@
 
 mod checksum;
 mod codec;
+mod desk;
 mod flush;
 mod frames;
 mod full_path;
@@ -43,6 +44,8 @@ fn main(rt: HostRuntime) -> Result<(), anyhow::Error> {
             "flush-524288" => full_path::checksum(alloc, 524_288, 20, count)?,
             "flush-stash-300" => full_path::checksum(alloc, 524_288, 300, count)?,
             "flush-stash-3000" => full_path::checksum(alloc, 524_288, 3_000, count)?,
+            "desk-10" => desk::checksum(alloc, 10, count)?,
+            "desk-14" => desk::checksum(alloc, 14, count)?,
             "slots" => slots::checksum(alloc, count)?,
             "read-script" => texts::checksum(alloc, Text::Script, count)?,
             "read-twin" => texts::checksum(alloc, Text::Twin, count)?,

@@ -21,6 +21,7 @@ pub use forgeries::Forgery;
 pub use laws::{newest_stays, reach_fits, stream_fits};
 pub use mem_doors::{FailTable, MemDoors};
 pub use mem_link::MemLink;
+pub use paths::read_path;
 pub use planted::Shaped;
 pub use rack::Streams;
 pub use shared::SharedTree;

@@ -8,7 +8,7 @@ use tao_base::path_node;
 use tao_bucket::node_of;
 
 /// Copies the buckets of the path to the leaf, the root's first.
-pub(crate) fn read_path(tree: &Tree, leaf: u32, out: &mut [u8])
+pub fn read_path(tree: &Tree, leaf: u32, out: &mut [u8])
     requires leaf { leaf < 2 ^ tree.now.shape.l }
     requires len { length out.old ≡ (tree.now.shape.l + 1) * bucket_len tree.now.shape }
     ensures { out.new ≡ path_bytes tree.now leaf }
